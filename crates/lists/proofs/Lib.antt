@@ -1,0 +1,5 @@
+pub mod Bool
+pub mod Member
+pub mod Every
+pub mod Number
+pub mod Rising

@@ -1,0 +1,16 @@
+-- The proofs, from the ground up.
+-- tasks, trees, records, the variables of a part, and what it takes to satisfy a clause
+pub mod Task
+pub mod Tree
+pub mod Record
+pub mod Range
+pub mod Satisfy
+-- rules 1 and 2 give the tree, rules 3 and 4 the states; together they are demand 3
+pub mod Trees
+pub mod Facts
+pub mod Demand3
+-- the tables computed: the ten marked ones, and one for each rule that these leave out
+pub mod Tables
+-- how many there are: nodes, variables, clauses, literals, bytes of a line
+pub mod Sizes
+pub mod Text

@@ -1,0 +1,96 @@
+-- How many clauses each part of the rules has, for a cursor that skips whole parts.
+-- By recursion on the lists that the part goes through.
+use mathlib.Core.Path.{_≡_, refl, sym, ap, _∙_}
+use mathlib.Core.List.{List, [], _∷_, _++_, map}
+use Prim.Native.Nat.{ℕ, zero, suc, _+_, _-_, _*_, _/_, _≤_}
+use native.Mathlib.Nat.{suc-mul, mul-suc, zero-mul}
+use native.Mathlib.Omega.{arith}
+use lib.ListN.{length, drop, length-map, length-append}
+use Rattle.lists.specs.List.{number, concatMap, from, upTo, has, Rising}
+use Rattle.lists.proofs.Number.{length-from}
+use Rattle.lists.proofs.Rising.{filter-has}
+use Rattle.planning.specs.Table.{Task, step, job, Table, stepOf, bodyOf}
+use Rattle.planning.specs.Tree.{initial}
+use Rattle.planning.specs.Variable.{factVar}
+use Rattle.planning.specs.Clause.{neg, notBoth, pairs, jobClause, bodyClauses, passClauses, stepClauses, upClause, literal, rule3, factsThat, drops, effectClauses, fallClause, riseClause, frameClauses, innerClauses}
+
+-- (a) and (b): n (n - 1) / 2
+pub pairs-twice : {A : Type 0} (xs : List (ℕ × A)) → length (pairs xs) + length (pairs xs) ≡ length xs * (length xs - 1)
+pairs-twice [] = refl
+pairs-twice (x ∷ xs) = go (length xs) (length (pairs xs)) (length-append (notBoth (x .0) xs) (pairs xs)) (length-map xs (λ y. neg (x .0) ∷ neg (y .0) ∷ [])) (pairs-twice xs)
+  where
+    go : (n p : ℕ) {a b : ℕ} → a ≡ b + p → b ≡ n → p + p ≡ n * (n - 1) → a + a ≡ suc n * (suc n - 1)
+    go zero p e f h = omega (arith, zero-mul (0 - 1))
+    go (suc n) p e f h = let z : suc n - 1 ≡ n = omega arith in let w : suc (suc n) - 1 ≡ suc n = omega arith in
+        rw w (omega (arith, rw z at h, suc-mul (suc n) (suc n), mul-suc (suc n) n))
+
+pub pairs-count : {A : Type 0} (xs : List (ℕ × A)) → length (pairs xs) ≡ length xs * (length xs - 1) / 2
+pairs-count xs = omega (arith, pairs-twice xs)
+
+-- (c): one for each job
+pub jobs-count : (T : Table) (methods : List (ℕ × ℕ)) (b : ℕ) (ss js : List ℕ) → length (concatMap (jobClause T methods) (number b (map step ss ++ map job js))) ≡ length js
+jobs-count T methods b [] [] = refl
+jobs-count T methods b [] (j ∷ js) = ap suc (jobs-count T methods (suc b) [] js)
+jobs-count T methods b (s ∷ ss) js = jobs-count T methods (suc b) ss js
+
+-- how many task variables these children have
+abbrev pub widths : List (List (ℕ × Task)) → ℕ
+widths [] = 0
+widths (c ∷ cs) = length c + widths cs
+
+-- (e), of one method: one for each child that gets a name, and one for each task variable of the others
+pub body-count : (n : ℕ) (ts : List Task) (cs : List (List (ℕ × Task))) → length ts ≤ length cs → length (bodyClauses n ts cs) ≡ length ts + widths (drop (length ts) cs)
+body-count n [] [] l = refl
+body-count n [] (c ∷ cs) l =
+    length-append (notBoth n c) (bodyClauses n [] cs)
+    ∙ omega (arith, length-map c (λ x. neg n ∷ neg (x .0) ∷ []), body-count n [] cs (omega arith))
+body-count n (t ∷ ts) [] l = absurd (omega arith)
+body-count n (t ∷ ts) (c ∷ cs) l = let h = body-count n ts cs (omega arith) in omega arith
+
+-- (f), of one step: one, and one for each task variable of children 2 and up
+pub pass-count : (n s : ℕ) (c : List (ℕ × Task)) (cs : List (List (ℕ × Task))) → length (passClauses n s (c ∷ cs)) ≡ suc (widths cs)
+pass-count n s c cs = ap suc (go cs)
+  where
+    go : (cs : List (List (ℕ × Task))) → length (concatMap (λ d. notBoth n d) cs) ≡ widths cs
+    go [] = refl
+    go (d ∷ ds) = length-append (notBoth n d) (concatMap (λ e. notBoth n e) ds) ∙ omega (arith, length-map d (λ x. neg n ∷ neg (x .0) ∷ []), go ds)
+
+-- so of all the steps of a node with children
+pub steps-count : (b : ℕ) (ss js : List ℕ) (c : List (ℕ × Task)) (cs : List (List (ℕ × Task)))
+    → length (concatMap (stepClauses (c ∷ cs)) (number b (map step ss ++ map job js))) ≡ length ss * suc (widths cs)
+steps-count b [] [] c cs = sym (zero-mul (suc (widths cs)))
+steps-count b [] (j ∷ js) c cs = steps-count (suc b) [] js c cs
+steps-count b (s ∷ ss) js c cs =
+    length-append (passClauses b s (c ∷ cs)) (concatMap (stepClauses (c ∷ cs)) (number (suc b) (map step ss ++ map job js)))
+    ∙ omega (arith, pass-count b s c cs, steps-count (suc b) ss js c cs, suc-mul (length ss) (suc (widths cs)))
+
+-- (g): one for each task variable of the children
+pub up-count : (tasks : List (ℕ × Task)) (cs : List (List (ℕ × Task))) → length (concatMap (λ c. map (upClause tasks) c) cs) ≡ widths cs
+up-count tasks [] = refl
+up-count tasks (c ∷ cs) = length-append (map (upClause tasks) c) (concatMap (λ d. map (upClause tasks) d) cs) ∙ omega (arith, length-map c (upClause tasks), up-count tasks cs)
+
+-- (a) to (g) at an inner node, where (d) has one for each method
+pub inner-count : (T : Table) (tasks : List (ℕ × Task)) (methods : List (ℕ × ℕ)) (cs : List (List (ℕ × Task)))
+    → length (innerClauses T tasks methods cs) ≡ length (pairs tasks) + (length (pairs methods) + (length (concatMap (jobClause T methods) tasks) + (length methods
+    + (length (concatMap (λ m. bodyClauses (m .0) (bodyOf T (m .1)) cs) methods) + (length (concatMap (stepClauses cs) tasks) + widths cs)))))
+inner-count T tasks methods cs = simp (length-append, length-map, up-count)
+
+-- rule 3: one for each fact
+pub rule3-count : (T : Table) (b : ℕ) → length (rule3 T b) ≡ T .facts
+rule3-count T b = length-map (upTo (T .facts)) (λ f. literal (initial T f) (factVar T b 0 f) ∷ []) ∙ length-from 0 (T .facts)
+
+-- rule 4 at a slot: for each step the facts that it needs, sets, and clears and does not set; then two for each fact
+pub effect-count : (T : Table) (b i : ℕ) (x : ℕ × ℕ) → let s = stepOf T (x .1) in
+    length (effectClauses T b i x) ≡ length (factsThat T (has (s .needs))) + (length (factsThat T (has (s .sets))) + length (factsThat T (drops s)))
+effect-count T b i x = simp (length-append, length-map)
+
+pub frame-count : (T : Table) (b i : ℕ) (xs : List (ℕ × ℕ)) → length (frameClauses T b i xs) ≡ T .facts + T .facts
+frame-count T b i xs = go 0 (T .facts)
+  where
+    go : (k n : ℕ) → length (concatMap (λ f. fallClause T b i xs f ∷ riseClause T b i xs f ∷ []) (from k n)) ≡ n + n
+    go k zero = refl
+    go k (suc n) = omega (arith, go (suc k) n)
+
+-- where a fact list is a set, as the reader promises, those facts that it has, rising, are the list
+pub facts-rising : (T : Table) (xs : List ℕ) → Rising 0 (T .facts) xs → factsThat T (has xs) ≡ xs
+facts-rising T xs r = filter-has (T .facts) xs r

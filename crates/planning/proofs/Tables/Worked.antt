@@ -1,0 +1,93 @@
+-- Further small tables, one for each rule that the marked tables do not put to the test, with the exact counts of their models; and
+-- document 01's edges of the tree of places. Each fact is computed.
+use mathlib.Core.Path.{_≡_, refl}
+use mathlib.Core.List.{List, [], _∷_}
+use Prim.Native.Nat.{ℕ}
+use Rattle.planning.specs.Table.{Task, step, job, Step, Method, Table, noStep}
+use Rattle.planning.specs.Tree.{Tree, split, end, height}
+use Rattle.planning.specs.Place.{childCount, childLabel, place, rootPlace, nodes}
+use Rattle.planning.specs.Marked.{Models, table, by, lift, shown}
+use Rattle.planning.proofs.Tables.Try.{tried}
+
+-- no fact; the steps do nothing. Methods of job 0, the root, and of job 1
+abbrev factless : ℕ → List Method → ℕ → Table
+factless jobs methods depth = record { facts = 0; steps = noStep ∷ noStep ∷ []; jobs = jobs; methods = methods; start = []; root = 0; depth = depth }
+
+abbrev byOne : List Task → Method
+byOne body = record { of = 1; body = body }
+
+-- 2(a) at a slot: one of two steps, and not both
+abbrev eitherStep : Table
+eitherStep = factless 1 (by (step 0 ∷ []) ∷ by (step 1 ∷ []) ∷ []) 1
+
+either-models : Models eitherStep 2
+unfolding place childLabel childCount
+either-models = tried eitherStep 2 refl
+
+-- 2(e), the negated rest: beside an empty body the child holds nothing
+abbrev emptyOrStep : Table
+emptyOrStep = factless 1 (by [] ∷ by (step 0 ∷ []) ∷ []) 1
+
+empty-or-models : Models emptyOrStep 2
+unfolding place childLabel childCount
+empty-or-models = tried emptyOrStep 2 refl
+
+-- 2(f): a step that is handed down, beside a job with two names in its body
+abbrev stepBesideTwo : Table
+stepBesideTwo = factless 2 (by (step 0 ∷ []) ∷ by (job 1 ∷ []) ∷ byOne (step 0 ∷ step 0 ∷ []) ∷ []) 2
+
+beside-models : Models stepBesideTwo 2
+unfolding place childLabel childCount
+beside-models = tried stepBesideTwo 2 refl
+
+-- 2(g): below a node that holds nothing nothing is held
+abbrev emptyOrJob : Table
+emptyOrJob = factless 2 (by [] ∷ by (job 1 ∷ []) ∷ byOne (step 0 ∷ []) ∷ []) 2
+
+below-models : Models emptyOrJob 2
+unfolding place childLabel childCount
+below-models = tried emptyOrJob 2 refl
+
+-- rule 4: a fact that no step touches stays true, or stays false
+abbrev idle : List ℕ → Table
+idle start = table noStep (by (step 0 ∷ []) ∷ []) start 1
+
+stays-true-models : Models (idle (0 ∷ [])) 1
+unfolding place childLabel childCount
+stays-true-models = tried (idle (0 ∷ [])) 1 refl
+
+stays-false-models : Models (idle []) 1
+unfolding place childLabel childCount
+stays-false-models = tried (idle []) 1 refl
+
+-- rule 4 at the last of two slots: lift sets what the second step needs
+abbrev liftThenNeed : Table
+liftThenNeed = record {
+  facts = 1;
+  steps = lift ∷ record { needs = 0 ∷ []; sets = []; clears = [] } ∷ [];
+  jobs = 1;
+  methods = by (step 0 ∷ step 1 ∷ []) ∷ by (step 1 ∷ step 0 ∷ []) ∷ by (step 0 ∷ []) ∷ [];
+  start = [];
+  root = 0;
+  depth = 1;
+}
+
+then-models : Models liftThenNeed 2
+unfolding place childLabel childCount
+then-models = tried liftThenNeed 2 refl
+
+-- "or 1 where the body is empty"
+empty-height : height (split 0 0 end) ≡ 1
+empty-height = refl
+
+-- "One method `serve,serve,serve`: depth 5 has 364 nodes, depth 6 has 1,093"
+abbrev threeServes : ℕ → Table
+threeServes depth = table lift (by (job 0 ∷ job 0 ∷ job 0 ∷ []) ∷ []) [] depth
+
+three-nodes : nodes (rootPlace (threeServes 5)) ≡ 364
+unfolding place childLabel childCount
+three-nodes = refl
+
+three-nodes-deeper : nodes (rootPlace (threeServes 6)) ≡ 1093
+unfolding place childLabel childCount
+three-nodes-deeper = refl

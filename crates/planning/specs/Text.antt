@@ -1,0 +1,78 @@
+-- The text of a formula, as lines of bytes: the DIMACS CNF form.
+-- Assumes nothing.
+use mathlib.Core.Bool.{cond}
+use mathlib.Core.List.{List, [], _∷_, _++_, map}
+use Prim.Native.Nat.{ℕ, zero, suc, _+_, _-_, _*_, _/_, _%_, _≤_, _<_}
+use lib.ListN.{length, take, drop}
+use lib.Dec.{leb, ltb}
+use Rattle.lists.specs.List.{concat, concatMap}
+use Rattle.planning.specs.Table.{Table}
+use Rattle.planning.specs.Variable.{variables}
+use Rattle.planning.specs.Clause.{Lit, pos, neg, Clause, formula}
+
+-- Numerals -----------------------------------------------------------------------------------------------------------------
+-- "Numerals are in base ten": the digits of n, the most significant first, put in front of rest, where n has at most k of them
+abbrev pub digits : (k n : ℕ) → List ℕ → List ℕ
+digits zero n rest = rest
+digits (suc k) n rest = cond (ltb n 10) ((48 + n) ∷ rest) (digits k (n / 10) ((48 + n % 10) ∷ rest))
+
+-- n has at most n + 1 digits
+abbrev pub decimal : ℕ → List ℕ
+decimal n = digits (suc n) n []
+
+-- a numeral read from the left, behind a number n that was read before it
+abbrev pub readDecimal : ℕ → List ℕ → ℕ
+readDecimal n [] = n
+readDecimal n (d ∷ ds) = readDecimal (n * 10 + (d - 48)) ds
+
+-- a digit's byte
+abbrev pub Digit : ℕ → Type 0
+Digit d = (48 ≤ d) × (d < 58)
+
+-- Lines --------------------------------------------------------------------------------------------------------------------
+-- a literal's number: the variable's numeral, with a minus in front where it is negated
+abbrev pub litText : Lit → List ℕ
+litText (pos n) = decimal n
+litText (neg n) = 45 ∷ decimal n
+
+-- "a clause is its numbers and a 0; one space between, LF after"
+abbrev pub clauseLine : Clause → List ℕ
+clauseLine c = concatMap (λ l. litText l ++ (32 ∷ [])) c ++ (48 ∷ 10 ∷ [])
+
+-- "The header is `p cnf`, variables, clauses"
+abbrev pub headerLine : (variables clauses : ℕ) → List ℕ
+headerLine n m = 112 ∷ 32 ∷ 99 ∷ 110 ∷ 102 ∷ 32 ∷ (decimal n ++ (32 ∷ (decimal m ++ (10 ∷ []))))
+
+-- "line 0 is the header, line j the jth clause"
+abbrev pub lines : Table → List (List ℕ)
+lines T = headerLine (variables T) (length (formula T)) ∷ map clauseLine (formula T)
+
+-- the whole text
+abbrev pub text : Table → List ℕ
+text T = concat (lines T)
+
+-- A text call --------------------------------------------------------------------------------------------------------------
+-- "as many whole lines as fit": the first k of these lines go into n bytes, and with one more, if there is one, they do not
+pub record AsManyAsFit (n : ℕ) (ls : List (List ℕ)) (k : ℕ) : Type 0 where
+  pub there : k ≤ length ls
+  pub fit : length (concat (take k ls)) ≤ n
+  pub no-more : k < length ls → n < length (concat (take (suc k) ls))
+
+-- these are they: line by line, up to the first that does not fit behind those before it
+abbrev pub fitting : ℕ → List (List ℕ) → List (List ℕ)
+fitting n [] = []
+fitting n (l ∷ ls) = cond (leb (length l) n) (l ∷ fitting (n - length l) ls) []
+
+-- "A text call begins at a given line": with a buffer of n bytes and begun at line j, these are the lines that it writes
+abbrev pub linesFrom : Table → (j n : ℕ) → List (List ℕ)
+linesFrom T j n = fitting n (drop j (lines T))
+
+-- the bytes that it writes. "It returns the bytes used and the next line"
+abbrev pub written : Table → (j n : ℕ) → List ℕ
+written T j n = concat (linesFrom T j n)
+
+abbrev pub bytesUsed : Table → (j n : ℕ) → ℕ
+bytesUsed T j n = length (written T j n)
+
+abbrev pub nextLine : Table → (j n : ℕ) → ℕ
+nextLine T j n = j + length (linesFrom T j n)
