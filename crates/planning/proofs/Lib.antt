@@ -1,4 +1,6 @@
 -- The proofs, from the ground up.
+-- the tables computed: the ten marked ones, and one for each rule that these leave out
+pub mod Tables
 -- tasks, trees, records, the variables of a part, and what it takes to satisfy a clause
 pub mod Task
 pub mod Tree
@@ -9,8 +11,6 @@ pub mod Satisfy
 pub mod Trees
 pub mod Facts
 pub mod Demand3
--- the tables computed: the ten marked ones, and one for each rule that these leave out
-pub mod Tables
--- how many there are: nodes, variables, clauses, literals, bytes of a line
+-- how many there are: tasks and children of a node, clauses of a part, literals, bytes of a line
 pub mod Sizes
 pub mod Text

@@ -10,7 +10,7 @@ use lib.Dec.{eqb}
 use Rattle.lists.specs.List.{Every, upTo, has, Rising}
 use Rattle.lists.proofs.Every.{every-append}
 use Rattle.lists.proofs.Rising.{rising-filter}
-use Rattle.planning.specs.Table.{step, job, Table, Sound}
+use Rattle.planning.specs.Table.{step, job, Table}
 use Rattle.planning.specs.Place.{Label, Place, slot, inner, Places, stop, also, childCount, named, childLabel, innerIf, row, place, rootLabel, rootPlace, nodes, nodesOf}
 use Rattle.planning.specs.Record.{Record, recordsAt, recordsBelow, records}
 

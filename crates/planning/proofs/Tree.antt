@@ -2,7 +2,6 @@
 -- By recursion on both.
 use mathlib.Core.Path.{_≡_, refl, subst}
 use mathlib.Core.Logic.{_↔_}
-use Prim.Native.Nat.{ℕ}
 use Rattle.planning.specs.Tree.{Tree, alone, split, Trees, end, next, SameTree, SameTrees}
 
 mutual

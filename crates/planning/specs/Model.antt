@@ -44,7 +44,7 @@ module _ {A : Type 0} where
   orElse true a o = some a
   orElse false a o = o
 
-  -- that one of these whose variable is true. (In a model there is at most one: `Trees.one-at-a-slot` and rule 2(a) and (b).)
+  -- that one of these whose variable is true; in a model there is at most one, by rule 2(a) and (b)
   abbrev pub chosen : Valuation → List (ℕ × A) → Option A
   chosen v [] = none
   chosen v (x ∷ xs) = orElse (v (x .0)) (x .1) (chosen v xs)

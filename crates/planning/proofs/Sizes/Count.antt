@@ -11,8 +11,9 @@ use Rattle.lists.proofs.Number.{length-from}
 use Rattle.lists.proofs.Rising.{filter-has}
 use Rattle.planning.specs.Table.{Task, step, job, Table, stepOf, bodyOf}
 use Rattle.planning.specs.Tree.{initial}
-use Rattle.planning.specs.Variable.{factVar}
-use Rattle.planning.specs.Clause.{neg, notBoth, pairs, jobClause, bodyClauses, passClauses, stepClauses, upClause, literal, rule3, factsThat, drops, effectClauses, fallClause, riseClause, frameClauses, innerClauses}
+use Rattle.planning.specs.Place.{rootPlace}
+use Rattle.planning.specs.Variable.{factVar, firstFactVar, slots}
+use Rattle.planning.specs.Clause.{neg, notBoth, pairs, jobClause, bodyClauses, passClauses, stepClauses, upClause, literal, rule3, factsThat, drops, effectClauses, fallClause, riseClause, frameClauses, innerClauses, formula, rule2, rule4}
 
 -- (a) and (b): n (n - 1) / 2
 pub pairs-twice : {A : Type 0} (xs : List (ℕ × A)) → length (pairs xs) + length (pairs xs) ≡ length xs * (length xs - 1)
@@ -94,3 +95,7 @@ frame-count T b i xs = go 0 (T .facts)
 -- where a fact list is a set, as the reader promises, those facts that it has, rising, are the list
 pub facts-rising : (T : Table) (xs : List ℕ) → Rising 0 (T .facts) xs → factsThat T (has xs) ≡ xs
 facts-rising T xs r = filter-has (T .facts) xs r
+
+-- the formula: rule 1 has one clause, rule 3 one for each fact
+pub formula-count : (T : Table) → length (formula T) ≡ 1 + (length (rule2 T (rootPlace T) 1) + (T .facts + length (rule4 T (firstFactVar T) 0 (slots T))))
+formula-count T = simp (length-append, rule3-count T (firstFactVar T)) (omega arith)

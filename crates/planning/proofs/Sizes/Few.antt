@@ -1,8 +1,8 @@
 -- The formula of an accepted table has fewer than 10 to the 9th clauses.
 -- Part by part with generous bounds, and by recursion on the place.
-use mathlib.Core.Path.{_≡_, refl, sym, subst}
+use mathlib.Core.Path.{refl, sym, subst}
 use mathlib.Core.Bool.{Bool}
-use mathlib.Core.List.{List, [], _∷_, _++_, map}
+use mathlib.Core.List.{List, [], _∷_, _++_}
 use mathlib.Core.Logic.{inl, inr}
 use Prim.Native.Nat.{ℕ, suc, _+_, _*_, _^_, _≤_, _<_}
 use native.Mathlib.Nat.{suc-mul}
@@ -13,12 +13,12 @@ use Rattle.lists.proofs.Member.{length-filter}
 use Rattle.lists.proofs.Every.{length-concatMap-le}
 use Rattle.lists.proofs.Number.{length-from, number-length}
 use Rattle.planning.specs.Table.{Task, step, job, Table, stepOf, bodyOf}
-use Rattle.planning.specs.Place.{Label, Place, slot, inner, Places, stop, also, methodsOf, rootPlace, nodes, nodesOf}
+use Rattle.planning.specs.Place.{Place, slot, inner, Places, stop, also, methodsOf, rootPlace, nodes, nodesOf}
 use Rattle.planning.specs.Variable.{ownVars, partVars, taskVars, methodVars, childVars, slots, firstFactVar}
-use Rattle.planning.specs.Clause.{neg, Clause, notBoth, pairs, jobClause, bodyClauses, stepClauses, innerClauses, rule2, rules2, rule3, factsThat, drops, effectClauses, frameClauses, rule4, formula}
+use Rattle.planning.specs.Clause.{neg, Clause, notBoth, pairs, jobClause, bodyClauses, stepClauses, innerClauses, rule2, rules2, factsThat, drops, effectClauses, frameClauses, rule4, formula}
 use Rattle.planning.specs.Accepted.{Accepted}
 use Rattle.planning.proofs.Satisfy.{pass-body}
-use Rattle.planning.proofs.Sizes.Count.{widths, inner-count, rule3-count, effect-count, frame-count}
+use Rattle.planning.proofs.Sizes.Count.{widths, inner-count, formula-count, effect-count, frame-count}
 use Rattle.planning.proofs.Sizes.Sized.{Sized, SizedEach, tasks-sized, children-sized, slot-sized, methods-length, children-length, slots-nodes, root-sized}
 
 pairs-le : {A : Type 0} (xs : List (ℕ × A)) (k : ℕ) → length xs ≤ k → length (pairs xs) ≤ length xs * k
@@ -119,10 +119,8 @@ module _ (T : Table) (accepted : Accepted T) where
       let b = firstFactVar T in
       omega (
         arith,
-        length-append (rule2 T (rootPlace T) 1) (rule3 T b ++ rule4 T b 0 (slots T)),
-        length-append (rule3 T b) (rule4 T b 0 (slots T)),
+        formula-count T,
         rule2-le (rootPlace T) 1 fit,
-        rule3-count T b,
         rule4-le b 0 (slots T) (λ xs m. omega (arith, slot-sized (length (T .steps)) (T .jobs) 8 T (rootPlace T) 1 fit xs m, accepted .limits .steps)),
         slots-nodes T (rootPlace T) 1,
         accepted .limits .facts,

@@ -4,19 +4,19 @@ use mathlib.Core.Path.{_≡_, refl, sym, subst}
 use mathlib.Core.Bool.{Bool, true, false}
 use mathlib.Core.List.{List, [], _∷_, _++_, map}
 use mathlib.Core.Logic.{inl, inr}
-use Prim.Native.Nat.{ℕ, zero, suc, _+_, _*_, max, _≤_, _<_}
+use Prim.Native.Nat.{ℕ, suc, _+_, max, _≤_, _<_}
 use native.Mathlib.Nat.{suc-mul, mul-le-mul-right}
 use native.Mathlib.Omega.{arith}
 use lib.ListN.{length, length-map, length-append}
 use lib.Dec.{eqb}
-use Rattle.lists.specs.List.{filter, number, _∈_, Every, concatMap, upTo, has}
+use Rattle.lists.specs.List.{filter, _∈_, Every, concatMap, upTo, has}
 use Rattle.lists.proofs.Member.{in-filter-out, length-filter}
-use Rattle.lists.proofs.Every.{every-append, every-out, every-map, every-concatMap}
+use Rattle.lists.proofs.Every.{every-append, every-map, every-concatMap}
 use Rattle.lists.proofs.Number.{upTo-range, number-length}
 use Rattle.planning.specs.Table.{Task, step, job, same, Method, Table, stepOf, jobOf, bodyOf, Sound}
 use Rattle.planning.specs.Tree.{initial}
 use Rattle.planning.specs.Place.{Label, Place, slot, inner, Places, stop, also, methodsOf, rootPlace}
-use Rattle.planning.specs.Variable.{tasksOf, ownVars, partVars, partsVars, taskVars, methodVars, childVars, slots, factVar, firstFactVar, variables}
+use Rattle.planning.specs.Variable.{ownVars, partVars, partsVars, taskVars, methodVars, childVars, slots, factVar, firstFactVar, variables}
 use Rattle.planning.specs.Clause.{Lit, pos, neg, Clause, variableOf, allPos, notBoth, pairs, varOf, rule1, jobClause, methodClause, bodyClauses, stepClauses, upClause, innerClauses, rule2, rules2, literal, rule3, factsThat, drops, effectClauses, fallClause, riseClause, frameClauses, rule4, formula}
 use Rattle.planning.proofs.Range.{task-range, method-range, child-range, slot-range}
 use Rattle.planning.proofs.Satisfy.{pass-body}

@@ -3,13 +3,10 @@
 use mathlib.Core.Path.{_≡_, refl}
 use mathlib.Core.Bool.{Bool, true}
 use mathlib.Core.List.{List, []}
-use Prim.Native.Nat.{ℕ}
-use lib.ListN.{length}
 use Rattle.lists.specs.List.{Every}
 use Rattle.planning.specs.Tree.{Tree, alone, split, end, next, treeSteps, initial, run}
 use Rattle.planning.specs.Place.{childCount, childLabel, place}
-use Rattle.planning.specs.Variable.{factVar, firstFactVar, variables}
-use Rattle.planning.specs.Clause.{formula}
+use Rattle.planning.specs.Variable.{factVar, firstFactVar}
 use Rattle.planning.specs.Model.{value, Model, Gives}
 use Rattle.planning.specs.Text.{text}
 use Rattle.planning.specs.Accepted.{Accepted}

@@ -10,7 +10,7 @@ use Rattle.lists.specs.List.{all, Every, Rising}
 use Rattle.lists.proofs.Bool.{and-l, and-r, leb-sound}
 use Rattle.lists.proofs.Member.{all-out}
 use Rattle.lists.proofs.Every.{every-of}
-use Rattle.planning.specs.Table.{Task, step, job, Step, Method, Table, TaskIn, StepIn, MethodIn, Sound, Limits}
+use Rattle.planning.specs.Table.{Task, step, job, Step, Method, Table, TaskIn, StepIn, MethodIn}
 use Rattle.planning.specs.Place.{rootPlace, nodes}
 use Rattle.planning.specs.Variable.{variables}
 use Rattle.planning.specs.Accepted.{Accepted}

@@ -1,11 +1,12 @@
 -- Further small tables, one for each rule that the marked tables do not put to the test, with the exact counts of their models; and
--- document 01's edges of the tree of places. Each fact is computed.
+-- edges of heights, places and text calls. Each fact is computed.
 use mathlib.Core.Path.{_≡_, refl}
 use mathlib.Core.List.{List, [], _∷_}
 use Prim.Native.Nat.{ℕ}
-use Rattle.planning.specs.Table.{Task, step, job, Step, Method, Table, noStep}
-use Rattle.planning.specs.Tree.{Tree, split, end, height}
+use Rattle.planning.specs.Table.{Task, step, job, Method, Table, noStep}
+use Rattle.planning.specs.Tree.{split, end, height}
 use Rattle.planning.specs.Place.{childCount, childLabel, place, rootPlace, nodes}
+use Rattle.planning.specs.Text.{bytesUsed, nextLine}
 use Rattle.planning.specs.Marked.{Models, table, by, lift, shown}
 use Rattle.planning.proofs.Tables.Try.{tried}
 
@@ -91,3 +92,21 @@ three-nodes = refl
 three-nodes-deeper : nodes (rootPlace (threeServes 6)) ≡ 1093
 unfolding place childLabel childCount
 three-nodes-deeper = refl
+
+-- the header of the table shown has 10 bytes, and the first clause 4: a buffer takes a line that just fits, and none that does not
+just-fits : nextLine shown 0 14 ≡ 2
+unfolding place childLabel childCount
+just-fits = refl
+
+one-short : nextLine shown 0 13 ≡ 1
+unfolding place childLabel childCount
+one-short = refl
+
+-- the last line, and past it
+last-line : bytesUsed shown 9 1024 ≡ 9
+unfolding place childLabel childCount
+last-line = refl
+
+past-the-end : nextLine shown 9 1024 ≡ 10
+unfolding place childLabel childCount
+past-the-end = refl

@@ -1,13 +1,11 @@
 -- Numerals: a number's is read back as that number, has no leading zero, and is as short as it can be.
 -- By recursion on the digits left.
-use mathlib.Core.Path.{_≡_, refl, ap, _∙_}
-use mathlib.Core.Bool.{true, false}
+use mathlib.Core.Path.{_≡_, ap, _∙_}
 use mathlib.Core.List.{List, [], _∷_}
 use Prim.Native.Nat.{ℕ, zero, suc, _+_, _-_, _*_, _/_, _%_, _^_, _≤_, _<_}
 use native.Mathlib.Nat.{div-add-mod', mod-lt, div-lt-iff-lt-mul, pow-suc}
 use native.Mathlib.Omega.{arith}
 use lib.ListN.{length, getD}
-use lib.Dec.{ltb}
 use Rattle.lists.specs.List.{Every}
 use Rattle.lists.proofs.Bool.{leb-cases}
 use Rattle.planning.specs.Text.{digits, decimal, readDecimal, Digit}

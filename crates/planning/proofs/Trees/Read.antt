@@ -13,7 +13,7 @@ use Rattle.lists.proofs.Member.{in-append, in-map-in}
 use Rattle.lists.proofs.Every.{concatMap-append}
 use Rattle.planning.specs.Table.{Task, step, Table}
 use Rattle.planning.specs.Tree.{Tree, alone, split, Trees, end, next, tops, treeSteps, treesSteps}
-use Rattle.planning.specs.Place.{Label, Place, slot, inner, Places, stop, also, methodsOf, is}
+use Rattle.planning.specs.Place.{Label, Place, slot, inner, Places, stop, also, methodsOf}
 use Rattle.planning.specs.Variable.{tasksOf, ownVars, partVars, methodVars, slotVars, slotsVars}
 use Rattle.planning.specs.Model.{Valuation, chosen, splitWith, nextWith, treeAt, read, reads}
 use Rattle.planning.proofs.Task.{no-job, step-in}

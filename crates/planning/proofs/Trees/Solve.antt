@@ -15,10 +15,10 @@ use Rattle.lists.proofs.Member.{in-filter-out}
 use Rattle.lists.proofs.Number.{number-thing}
 use Rattle.planning.specs.Table.{Task, step, job, Table, jobOf, bodyOf}
 use Rattle.planning.specs.Tree.{Tree, alone, split, Trees, end, next, tops}
-use Rattle.planning.specs.Place.{Label, Place, slot, inner, Places, stop, also, methodsOf, is, count}
+use Rattle.planning.specs.Place.{Label, Place, slot, inner, Places, stop, also, methodsOf, count}
 use Rattle.planning.specs.Variable.{tasksOf, ownVars, partVars, taskVars, methodVars, childVars}
 use Rattle.planning.specs.Clause.{neg, Clause, allPos, notBoth, varOf, bodyClauses, innerClauses, rule2, rules2}
-use Rattle.planning.specs.Model.{Valuation, clauseTrue, satisfies, given}
+use Rattle.planning.specs.Model.{Valuation, clauseTrue, satisfies}
 use Rattle.planning.proofs.Task.{no-job}
 use Rattle.planning.proofs.Satisfy.{pass-body, sat-l, sat-r, imp-out, allPos-out, notBoth-out, varOf-out, up-out}
 use Rattle.planning.proofs.Trees.Hold.{Hot, Pick, hot-of-pick, shownTask, Holds, HoldsEach, Fits, FitsEach, Regular, RegularEach}

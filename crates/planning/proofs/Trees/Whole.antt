@@ -14,14 +14,14 @@ use Rattle.planning.specs.Tree.{Tree, top, height, treeSteps, TreeOf}
 use Rattle.planning.specs.Place.{rootLabel, rootPlace}
 use Rattle.planning.specs.Variable.{tasksOf, taskVars, nodeVars, slots}
 use Rattle.planning.specs.Clause.{Clause, varOf, rule1, rule2}
-use Rattle.planning.specs.Model.{Valuation, clauseTrue, satisfies, value, chosen, read, given}
+use Rattle.planning.specs.Model.{Valuation, clauseTrue, satisfies, value, chosen, read}
 use Rattle.planning.proofs.Satisfy.{trueOnes, listOf, slotSteps, varOf-out, varOf-in}
 use Rattle.planning.proofs.Trees.Hold.{Hot, shownTask, Holds, Fits, Regular}
 use Rattle.planning.proofs.Trees.Solve.{solve}
 use Rattle.planning.proofs.Trees.Complete.{hot-top, held-top, true-of, complete}
 use Rattle.planning.proofs.Trees.Read.{read-holds, slot-steps, slots-one}
 use Rattle.planning.proofs.Trees.Agree.{holds-agree, holds-same}
-use Rattle.planning.proofs.Trees.Places.{regular-place, Within, fits-tree, InLabel, tree-fits}
+use Rattle.planning.proofs.Trees.Places.{regular-place, fits-tree, InLabel, tree-fits, Within}
 use Rattle.planning.proofs.Trees.Encode.{encode, length-encode, encode-holds}
 
 -- rules 1 and 2
