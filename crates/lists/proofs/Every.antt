@@ -19,6 +19,10 @@ module _ {A : Type 0} (P : A → Type 0) where
   every-out (y ∷ ys) p x (inl e) = subst P (sym e) (p .0)
   every-out (y ∷ ys) p x (inr m) = every-out ys (p .1) x m
 
+  pub every-imp : (Q : A → Type 0) → ((x : A) → P x → Q x) → (xs : List A) → Every P xs → Every Q xs
+  every-imp Q f [] p = tt
+  every-imp Q f (x ∷ xs) p = (f x (p .0), every-imp Q f xs (p .1))
+
   pub every-getD : (xs : List A) (d : A) → Every P xs → P d → (i : ℕ) → P (getD xs i d)
   every-getD [] d h k i = k
   every-getD (x ∷ xs) d h k zero = h .0

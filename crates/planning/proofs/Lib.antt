@@ -1,9 +1,10 @@
 -- The proofs, from the ground up.
 -- the tables computed: the ten marked ones, and one for each rule that these leave out
 pub mod Tables
--- tasks, trees, records, the variables of a part, and what it takes to satisfy a clause
+-- tasks, trees, nodes, records, the variables of a part, and what it takes to satisfy a clause
 pub mod Task
 pub mod Tree
+pub mod Everywhere
 pub mod Record
 pub mod Range
 pub mod Satisfy

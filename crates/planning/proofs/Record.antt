@@ -1,18 +1,18 @@
 -- The tree records: there is one for each node, and the sets in them are sets of the table's steps and jobs.
--- By recursion on the place, and on the depth left.
+-- By recursion on the place.
 use mathlib.Core.Path.{_≡_, refl, ap, _∙_}
 use mathlib.Core.Bool.{_&&_, _||_}
-use mathlib.Core.List.{List, [], _∷_, map}
-use Prim.Native.Nat.{ℕ, zero, suc, _+_, _<_}
+use Prim.Native.Nat.{ℕ, suc, _+_, _<_}
 use native.Mathlib.Omega.{arith}
 use lib.ListN.{length, length-append}
 use lib.Dec.{eqb}
-use Rattle.lists.specs.List.{Every, upTo, has, Rising}
+use Rattle.lists.specs.List.{Every, has, Rising}
 use Rattle.lists.proofs.Every.{every-append}
 use Rattle.lists.proofs.Rising.{rising-filter}
 use Rattle.planning.specs.Table.{step, job, Table}
-use Rattle.planning.specs.Place.{Label, Place, slot, inner, Places, stop, also, childCount, named, childLabel, innerIf, row, place, rootLabel, rootPlace, nodes, nodesOf}
+use Rattle.planning.specs.Place.{Label, Place, slot, inner, Places, stop, also, named, childLabel, rootLabel, rootPlace, nodes, nodesOf}
 use Rattle.planning.specs.Record.{Record, recordsAt, recordsBelow, records}
+use Rattle.planning.proofs.Everywhere.{Everywhere, EverywhereEach, everywhere}
 
 mutual
   records-nodes : (p : Place) (d u n : ℕ) → length (recordsAt p d u n) ≡ nodes p
@@ -35,14 +35,11 @@ pub record LabelIn (T : Table) (L : Label) : Type 0 where
   pub jobs : Rising 0 (T .jobs) (L .jobs)
 
 module _ (T : Table) where
-  abbrev mutual
-    LabelsIn : Place → Type 0
-    LabelsIn (slot L) = LabelIn T L
-    LabelsIn (inner L ps) = LabelIn T L × LabelsInEach ps
+  abbrev LabelsIn : Place → Type 0
+  LabelsIn = Everywhere (LabelIn T) (λ L c. LabelIn T L)
 
-    LabelsInEach : Places → Type 0
-    LabelsInEach stop = Unit {0}
-    LabelsInEach (also p ps) = LabelsIn p × LabelsInEach ps
+  abbrev LabelsInEach : Places → Type 0
+  LabelsInEach = EverywhereEach (LabelIn T) (λ L c. LabelIn T L)
 
   child-in : (L : Label) (i : ℕ) → LabelIn T (childLabel T L i)
   unfolding childLabel
@@ -50,20 +47,6 @@ module _ (T : Table) where
     steps = rising-filter (λ s. named T L i (step s) || (eqb i 0 && has (L .steps) s)) (length (T .steps));
     jobs = rising-filter (λ j. named T L i (job j)) (T .jobs);
   }
-
-  row-in : (f : Label → Place) (L : Label) (is : List ℕ) → ((i : ℕ) → LabelsIn (f (childLabel T L i))) → LabelsInEach (row f (map (childLabel T L) is))
-  row-in f L [] h = tt
-  row-in f L (i ∷ is) h = (h i, row-in f L is h)
-
-  inner-in : (L : Label) (js : List ℕ) (ps : Places) → LabelIn T L → LabelsInEach ps → LabelsIn (innerIf js L ps)
-  inner-in L [] ps l h = l
-  inner-in L (j ∷ js) ps l h = (l, h)
-
-  place-in : (d : ℕ) (L : Label) → LabelIn T L → LabelsIn (place T d L)
-  unfolding place
-  place-in zero L l = l
-  place-in (suc d) L l = inner-in L (L .jobs) (row (λ M. place T d M) (map (childLabel T L) (upTo (childCount T L)))) l
-      (row-in (λ M. place T d M) L (upTo (childCount T L)) (λ i. place-in d (childLabel T L i) (child-in L i)))
 
   abbrev RecordIn : Record → Type 0
   RecordIn r = LabelIn T (r .label)
@@ -79,4 +62,5 @@ module _ (T : Table) where
         every-append RecordIn (recordsAt p d u n) (recordsBelow ps d u (n + nodes p)) (records-in p d u n (l .0)) (records-in-each ps d u (n + nodes p) (l .1))
 
   pub records-rising : T .root < T .jobs → Every (λ (r : Record). LabelIn T (r .label)) (records T)
-  records-rising h = records-in (rootPlace T) 0 0 0 (place-in (T .depth) (rootLabel T) (record { steps = tt; jobs = (omega arith, h, tt) }))
+  records-rising h = records-in (rootPlace T) 0 0 0
+      (everywhere (LabelIn T) (λ L c. LabelIn T L) T (LabelIn T) child-in (λ L l. l) (λ L l. l) (T .depth) (rootLabel T) (record { steps = tt; jobs = (omega arith, h, tt) }))

@@ -1,4 +1,4 @@
--- The formula: the clauses of document 01's rules 1 to 4, in its order.
+-- The formula: the clauses of document 01's rules 1 to 4, in its order. A name in italics, as *applyMethod*, is the totSAT paper's.
 -- Assumes nothing.
 use mathlib.Core.Bool.{Bool, true, false, not, _&&_}
 use mathlib.Core.List.{List, [], _∷_, _++_, map}
@@ -47,7 +47,7 @@ abbrev pub rule1 : Table → List Clause
 rule1 T = varOf (job (T .root)) (taskVars (rootPlace T) 1) ∷ []
 
 -- Rule 2 -------------------------------------------------------------------------------------------------------------------
--- (a) and (b) are `pairs`. (c) "for each job: negated, then its methods"
+-- (a) and (b) are `pairs`. (b), (c) and (d) are *selectMethod*. (c) "for each job: negated, then its methods"
 abbrev pub jobClause : Table → List (ℕ × ℕ) → ℕ × Task → List Clause
 jobClause T methods x = elim (x .1) [ step s ↦ [] | job j ↦ (neg (x .0) ∷ allPos (filter (λ m. eqb (jobOf T (m .1)) j) methods)) ∷ [] ]
 
@@ -55,7 +55,7 @@ jobClause T methods x = elim (x .1) [ step s ↦ [] | job j ↦ (neg (x .0) ∷ 
 abbrev pub methodClause : Table → List (ℕ × Task) → ℕ × ℕ → Clause
 methodClause T tasks m = neg (m .0) ∷ varOf (job (jobOf T (m .1))) tasks
 
--- (e) of one method, with variable n: "[for each] child in order: if the body has a name there, the method negated then that task at
+-- (e), *applyMethod*, of one method, with variable n: "[for each] child in order: if the body has a name there, the method negated then that task at
 -- the child, or the method negated alone if that task has no variable; otherwise, for each task variable of the child, the method and
 -- it, both negated"
 abbrev pub bodyClauses : ℕ → List Task → List (List (ℕ × Task)) → List Clause
@@ -63,7 +63,7 @@ bodyClauses n ts [] = []
 bodyClauses n [] (c ∷ cs) = notBoth n c ++ bodyClauses n [] cs
 bodyClauses n (t ∷ ts) (c ∷ cs) = (neg n ∷ varOf t c) ∷ bodyClauses n ts cs
 
--- (f) of one step s, with variable n: "negated, then the same step at child 1, then for each task variable of children 2 and up, the
+-- (f), *inheritPrimitive*, of one step s, with variable n: "negated, then the same step at child 1, then for each task variable of children 2 and up, the
 -- step and it, both negated". (An inner node that may hold a step has a child 1.)
 abbrev pub passClauses : ℕ → ℕ → List (List (ℕ × Task)) → List Clause
 passClauses n s [] = []
@@ -72,7 +72,7 @@ passClauses n s (c ∷ cs) = (neg n ∷ varOf (step s) c) ∷ concatMap (λ d. n
 abbrev pub stepClauses : List (List (ℕ × Task)) → ℕ × Task → List Clause
 stepClauses children x = elim (x .1) [ step s ↦ passClauses (x .0) s children | job j ↦ [] ]
 
--- (g) "for each child and task variable of it: the node's task variables, then that one negated"
+-- (g), *nonePresent*: "for each child and task variable of it: the node's task variables, then that one negated"
 abbrev pub upClause : List (ℕ × Task) → ℕ × Task → Clause
 upClause tasks x = allPos tasks ++ (neg (x .0) ∷ [])
 
@@ -116,7 +116,7 @@ factsThat T p = filter p (upTo (T .facts))
 abbrev pub drops : Step → ℕ → Bool
 drops s f = has (s .clears) f && not (has (s .sets) f)
 
--- at the slot between boundaries i and i + 1: "for each step variable, with the step negated first: needed facts before; set facts
+-- *action*, at the slot between boundaries i and i + 1: "for each step variable, with the step negated first: needed facts before; set facts
 -- after; cleared and not set facts after, negated; facts rising"
 abbrev pub effectClauses : Table → (b i : ℕ) → ℕ × ℕ → List Clause
 effectClauses T b i x =
@@ -125,7 +125,7 @@ effectClauses T b i x =
     ++ map (λ f. neg (x .0) ∷ neg (factVar T b (suc i) f) ∷ []) (factsThat T (drops (stepOf T (x .1)))))
 
 -- "Then for each fact: before negated, after, steps here that clear and do not set it; next: before, after negated, steps here that
--- set it": a fact falls or rises only by a step (the explanatory frame axioms). xs are the step variables of the slot
+-- set it": *maintain*, a fact falls or rises only by a step (the explanatory frame axioms). xs are the step variables of the slot
 abbrev pub fallClause : Table → (b i : ℕ) → List (ℕ × ℕ) → ℕ → Clause
 fallClause T b i xs f = neg (factVar T b i f) ∷ pos (factVar T b (suc i) f) ∷ allPos (filter (λ x. drops (stepOf T (x .1)) f) xs)
 

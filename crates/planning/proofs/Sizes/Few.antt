@@ -87,9 +87,9 @@ module _ (T : Table) (accepted : Accepted T) where
       length-append (innerClauses T (taskVars (inner L ps) b) (methodVars T L b) (childVars T ps (b + ownVars T L))) (rules2 T ps (b + ownVars T L)),
       inner-le T (taskVars (inner L ps) b) (methodVars T L b) (childVars T ps (b + ownVars T L)) (tasks-few (inner L ps) b h)
           (omega (arith, number-length (b + (length (L .steps) + length (L .jobs))) (methodsOf T (L .jobs)), methods-length T (L .jobs), accepted .limits .methods))
-          (omega (arith, children-length T ps (b + ownVars T L), h .1))
-          (λ c m. omega (arith, children-sized (length (T .steps)) (T .jobs) 8 T ps (b + ownVars T L) (h .2) c m, accepted .limits .steps, accepted .limits .jobs)),
-      rules2-le ps (b + ownVars T L) (h .2),
+          (omega (arith, children-length T ps (b + ownVars T L), h .0 .1))
+          (λ c m. omega (arith, children-sized (length (T .steps)) (T .jobs) 8 T ps (b + ownVars T L) (h .1) c m, accepted .limits .steps, accepted .limits .jobs)),
+      rules2-le ps (b + ownVars T L) (h .1),
     )
 
     rules2-le : (ps : Places) (b : ℕ) → FitEach ps → length (rules2 T ps b) ≤ nodesOf ps * 300000

@@ -2,9 +2,9 @@
 -- By recursion on the place.
 use mathlib.Core.Path.{_≡_, refl, ap}
 use mathlib.Core.Bool.{_&&_, _||_}
-use mathlib.Core.List.{List, [], _∷_, map}
+use mathlib.Core.List.{List, [], _∷_}
 use mathlib.Core.Logic.{⊎-elim, inl, inr}
-use Prim.Native.Nat.{ℕ, zero, suc, _+_, _≤_}
+use Prim.Native.Nat.{ℕ, suc, _+_, _≤_}
 use native.Mathlib.Omega.{arith}
 use lib.ListN.{length, length-map, length-append}
 use lib.Dec.{eqb}
@@ -13,10 +13,10 @@ use Rattle.lists.proofs.Member.{in-append, length-filter}
 use Rattle.lists.proofs.Every.{every-getD}
 use Rattle.lists.proofs.Number.{length-from, number-length}
 use Rattle.planning.specs.Table.{Task, step, job, Method, Table, noMethod, jobOf, bodyOf}
-use Rattle.planning.specs.Place.{Label, Place, slot, inner, Places, stop, also, methodsOf, longest, oneIfAny, childCount, named, childLabel, innerIf, row, place, rootLabel, rootPlace, nodes, nodesOf, count}
+use Rattle.planning.specs.Place.{Label, Place, slot, inner, Places, stop, also, methodsOf, longest, oneIfAny, childCount, named, childLabel, rootLabel, rootPlace, nodes, nodesOf, count}
 use Rattle.planning.specs.Variable.{tasksOf, ownVars, partVars, taskVars, childVars, slotVars, slotsVars}
 use Rattle.planning.proofs.Task.{length-tasks}
-use Rattle.planning.proofs.Trees.Places.{count-row}
+use Rattle.planning.proofs.Everywhere.{Everywhere, EverywhereEach, everywhere}
 
 -- at each node at most S steps, J jobs and, where it is inner, C children
 module _ (S J C : ℕ) where
@@ -24,19 +24,16 @@ module _ (S J C : ℕ) where
     pub steps : length (L .steps) ≤ S
     pub jobs : length (L .jobs) ≤ J
 
-  abbrev mutual
-    pub Sized : Place → Type 0
-    Sized (slot L) = LabelSized L
-    Sized (inner L ps) = LabelSized L × (count ps ≤ C) × SizedEach ps
+  abbrev pub Sized : Place → Type 0
+  Sized = Everywhere LabelSized (λ L c. LabelSized L × (c ≤ C))
 
-    pub SizedEach : Places → Type 0
-    SizedEach stop = Unit {0}
-    SizedEach (also p ps) = Sized p × SizedEach ps
+  abbrev pub SizedEach : Places → Type 0
+  SizedEach = EverywhereEach LabelSized (λ L c. LabelSized L × (c ≤ C))
 
   -- so much for the task variables of a node, of its children, of a slot
   pub tasks-sized : (p : Place) (b : ℕ) → Sized p → length (taskVars p b) ≤ S + J
   tasks-sized (slot L) b h = omega (arith, number-length b (tasksOf (slot L)), length-map (L .steps) step, h .steps)
-  tasks-sized (inner L ps) b h = omega (arith, number-length b (tasksOf (inner L ps)), length-tasks (L .steps) (L .jobs), h .0 .steps, h .0 .jobs)
+  tasks-sized (inner L ps) b h = omega (arith, number-length b (tasksOf (inner L ps)), length-tasks (L .steps) (L .jobs), h .0 .0 .steps, h .0 .0 .jobs)
 
   module _ (T : Table) where
     pub children-sized : (ps : Places) (b : ℕ) → SizedEach ps → (c : List (ℕ × Task)) → c ∈ childVars T ps b → length c ≤ S + J
@@ -48,7 +45,7 @@ module _ (S J C : ℕ) where
       pub slot-sized : (p : Place) (b : ℕ) → Sized p → (xs : List (ℕ × ℕ)) → xs ∈ slotVars T p b → length xs ≤ S
       slot-sized (slot L) b h xs (inl e) = rw e (omega (arith, number-length b (L .steps), h .steps))
       slot-sized (slot L) b h xs (inr m) = absurd m
-      slot-sized (inner L ps) b h xs m = slots-sized ps (b + ownVars T L) (h .2) xs m
+      slot-sized (inner L ps) b h xs m = slots-sized ps (b + ownVars T L) (h .1) xs m
 
       slots-sized : (ps : Places) (b : ℕ) → SizedEach ps → (xs : List (ℕ × ℕ)) → xs ∈ slotsVars T ps b → length xs ≤ S
       slots-sized stop b h xs m = absurd m
@@ -91,19 +88,6 @@ module _ (T : Table) where
     unfolding childCount
     children-short L = omega (arith, any-one (L .steps), longest-short (methodsOf T (L .jobs)))
 
-    abbrev TableSized : Place → Type 0
-    TableSized = Sized (length (T .steps)) (T .jobs) C
-
-    row-sized : (f : Label → Place) (L : Label) (is : List ℕ) → ((i : ℕ) → TableSized (f (childLabel T L i)))
-        → SizedEach (length (T .steps)) (T .jobs) C (row f (map (childLabel T L) is))
-    row-sized f L [] h = tt
-    row-sized f L (i ∷ is) h = (h i, row-sized f L is h)
-
-    inner-sized : (L : Label) (js : List ℕ) (ps : Places) → LabelSized (length (T .steps)) (T .jobs) C L → count ps ≤ C
-        → SizedEach (length (T .steps)) (T .jobs) C ps → TableSized (innerIf js L ps)
-    inner-sized L [] ps l c h = l
-    inner-sized L (j ∷ js) ps l c h = (l, c, h)
-
     child-sized : (L : Label) (i : ℕ) → LabelSized (length (T .steps)) (T .jobs) C (childLabel T L i)
     unfolding childLabel
     child-sized L i = record {
@@ -111,12 +95,7 @@ module _ (T : Table) where
       jobs = omega (arith, length-filter (λ j. named T L i (job j)) (upTo (T .jobs)), length-from 0 (T .jobs));
     }
 
-    place-sized : (d : ℕ) (L : Label) → LabelSized (length (T .steps)) (T .jobs) C L → TableSized (place T d L)
-    unfolding place
-    place-sized zero L l = l
-    place-sized (suc d) L l = inner-sized L (L .jobs) (row (λ M. place T d M) (map (childLabel T L) (upTo (childCount T L)))) l
-        (omega (arith, count-row (λ M. place T d M) (map (childLabel T L) (upTo (childCount T L))), length-map (upTo (childCount T L)) (childLabel T L), length-from 0 (childCount T L), children-short L))
-        (row-sized (λ M. place T d M) L (upTo (childCount T L)) (λ i. place-sized d (childLabel T L i) (child-sized L i)))
-
     pub root-sized : 1 ≤ T .jobs → Sized (length (T .steps)) (T .jobs) C (rootPlace T)
-    root-sized h = place-sized (T .depth) (rootLabel T) (record { steps = omega arith; jobs = h })
+    root-sized h =
+        everywhere (LabelSized (length (T .steps)) (T .jobs) C) (λ L c. LabelSized (length (T .steps)) (T .jobs) C L × (c ≤ C)) T (LabelSized (length (T .steps)) (T .jobs) C)
+        child-sized (λ L l. l) (λ L l. (l, children-short L)) (T .depth) (rootLabel T) (record { steps = omega arith; jobs = h })

@@ -11,7 +11,7 @@ use lib.ListN.{length, length-map, length-append}
 use lib.Dec.{eqb}
 use Rattle.lists.specs.List.{filter, _∈_, Every, concatMap, upTo, has}
 use Rattle.lists.proofs.Member.{in-filter-out, length-filter}
-use Rattle.lists.proofs.Every.{every-append, every-map, every-concatMap}
+use Rattle.lists.proofs.Every.{every-append, every-map, every-concatMap, every-imp}
 use Rattle.lists.proofs.Number.{upTo-range, number-length}
 use Rattle.planning.specs.Table.{Task, step, job, same, Method, Table, stepOf, jobOf, bodyOf, Sound}
 use Rattle.planning.specs.Tree.{initial}
@@ -136,8 +136,8 @@ module _ (T : Table) (N W C : ℕ) (wide : Wide T W) where
     rule2-small (inner L ps) b h l s =
         every-append (Small N W) (innerClauses T (taskVars (inner L ps) b) (methodVars T L b) (childVars T ps (b + ownVars T L))) (rules2 T ps (b + ownVars T L))
         (inner-small N W T (taskVars (inner L ps) b) (methodVars T L b) (childVars T ps (b + ownVars T L)) (omega (arith, wide .slots))
-        (task-narrow (inner L ps) b h l s) (method-narrow L b l (omega arith)) (child-narrow ps (b + ownVars T L) (h .2) (omega arith) (omega arith)))
-        (rules2-small ps (b + ownVars T L) (h .2) (omega arith) (omega arith))
+        (task-narrow (inner L ps) b h l s) (method-narrow L b l (omega arith)) (child-narrow ps (b + ownVars T L) (h .1) (omega arith) (omega arith)))
+        (rules2-small ps (b + ownVars T L) (h .1) (omega arith) (omega arith))
 
     rules2-small : (ps : Places) (b : ℕ) → FitEach ps → 1 ≤ b → b + partsVars T ps ≤ suc N → Every (Small N W) (rules2 T ps b)
     rules2-small stop b h l s = tt
@@ -224,26 +224,21 @@ module _ (T : Table) (W C : ℕ) (wide : Wide T W) (sized : Sized (length (T .st
       (every-append (Small N W) r3 r4 (rule3-small T N W C wide b (facts-in 0 (omega arith)))
       (rule4-small T N W C wide b 0 (slots T) slots-in (λ k l. facts-in k (omega arith)))))
 
--- every literal lies in 1 to the variable count, whatever the table's counts are
-literals-in : (T : Table) (W : ℕ) (cs : List Clause) → Every (Small (variables T) W) cs → Every (Every (LitIn (variables T) W)) cs
-literals-in T W [] h = tt
-literals-in T W (c ∷ cs) h = (h .0 .inside, literals-in T W cs (h .1))
-
+-- Every literal lies in 1 to the variable count, whatever the table's counts are ------------------------------------------------
 abbrev bodyMax : List Method → ℕ
 bodyMax [] = 1
 bodyMax (m ∷ ms) = max (length (m .body)) (bodyMax ms)
 
 body-max : (ms : List Method) → (1 ≤ bodyMax ms) × Every (λ (m : Method). length (m .body) ≤ bodyMax ms) ms
 body-max [] = (omega arith, tt)
-body-max (m ∷ ms) = let r = body-max ms in (omega (arith, r .0), (omega arith, every-le (λ (k : Method). length (k .body)) ms (bodyMax ms) (bodyMax (m ∷ ms)) (omega arith) (r .1)))
-  where
-    every-le : {A : Type 0} (f : A → ℕ) (xs : List A) (j k : ℕ) → j ≤ k → Every (λ (x : A). f x ≤ j) xs → Every (λ (x : A). f x ≤ k) xs
-    every-le f [] j k l h = tt
-    every-le f (x ∷ xs) j k l h = (omega (arith, h .0), every-le f xs j k l (h .1))
+body-max (m ∷ ms) =
+    let r = body-max ms in
+    (omega (arith, r .0), (omega arith, every-imp (λ (k : Method). length (k .body) ≤ bodyMax ms) (λ (k : Method). length (k .body) ≤ bodyMax (m ∷ ms)) (λ k h. omega arith) ms (r .1)))
 
 pub literal-range : (T : Table) → Sound T → Every (Every (λ (l : Lit). (1 ≤ variableOf l) × (variableOf l ≤ variables T))) (formula T)
 literal-range T s =
     let r = body-max (T .methods) in
     let W = 2 + (length (T .steps) + (T .jobs + length (T .methods))) in
-    literals-in T W (formula T) (formula-small T W (bodyMax (T .methods)) (record { slots = omega arith; tasks = omega arith; methods = omega arith })
+    every-imp (Small (variables T) W) (Every (LitIn (variables T) W)) (λ c h. h .inside) (formula T)
+    (formula-small T W (bodyMax (T .methods)) (record { slots = omega arith; tasks = omega arith; methods = omega arith })
     (root-sized T (bodyMax (T .methods)) (r .0) (r .1) (omega (arith, s .root))))

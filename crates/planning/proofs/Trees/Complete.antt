@@ -128,8 +128,8 @@ module _ (T : Table) (v : Valuation) where
 
     pub node-holds : (o : Option Tree) → Holds T v (inner L ps) b o → Fits T (inner L ps) o → Node T v (taskVars (inner L ps) b) (methodVars T L b) (childVars T ps (b + ownVars T L))
     node-holds o i f = record {
-      a = pairs-in v b (tasksOf (inner L ps)) (shownTask o) (sd .0) (i .0);
-      b = pairs-in v (b + (length (L .steps) + length (L .jobs))) (methodsOf T (L .jobs)) (shownMethod o) (sd .1) (i .1);
+      a = pairs-in v b (tasksOf (inner L ps)) (shownTask o) (sd .0 .tasks) (i .0);
+      b = pairs-in v (b + (length (L .steps) + length (L .jobs))) (methodsOf T (L .jobs)) (shownMethod o) (sd .0 .methods) (i .1);
       c = λ x m. part-c o i f (x .0) (x .1) m;
       d = part-d o i f;
       e = part-e o i f;
@@ -143,7 +143,7 @@ module _ (T : Table) (v : Valuation) where
     complete (inner L ps) b o sd i f =
         sat-in v (innerClauses T (taskVars (inner L ps) b) (methodVars T L b) (childVars T ps (b + ownVars T L))) (rules2 T ps (b + ownVars T L))
         (node-in T v (taskVars (inner L ps) b) (methodVars T L b) (childVars T ps (b + ownVars T L)) (node-holds L ps b sd o i f))
-        (completes ps (b + ownVars T L) (below o) (sd .4) (i .2) (f .2))
+        (completes ps (b + ownVars T L) (below o) (sd .1) (i .2) (f .2))
 
     pub completes : (ps : Places) (b : ℕ) (ts : Trees) → RegularEach T ps → HoldsEach T v ps b ts → FitsEach T ps ts → satisfies v (rules2 T ps b) ≡ true
     completes stop b ts sd i f = refl

@@ -2,7 +2,7 @@
 -- `Holds`: the true variables are those of the tree. `Fits`: the place has a variable for all that the tree has there.
 use mathlib.Core.Path.{_≡_, refl, sym, ap, _∙_, subst}
 use mathlib.Core.Bool.{true, false}
-use mathlib.Core.List.{List, [], _∷_}
+use mathlib.Core.List.{List, [], _∷_, map, _++_}
 use mathlib.Core.Logic.{inl, inr, _↔_}
 use mathlib.Core.Option.{Option, none, some}
 use Prim.Native.Nat.{ℕ, suc, _+_, _≤_}
@@ -10,12 +10,13 @@ use lib.ListN.{length}
 use Rattle.lists.specs.List.{number, _∈_, Distinct}
 use Rattle.lists.proofs.Bool.{clash, some-inj, none≢some, false-of}
 use Rattle.lists.proofs.Number.{number-thing, number-unique}
-use Rattle.planning.specs.Table.{Task, step, Table, jobOf, bodyOf}
+use Rattle.planning.specs.Table.{Task, step, Table, jobOf, bodyOf, job}
 use Rattle.planning.specs.Tree.{Tree, alone, split, Trees, end, next, top, tops}
-use Rattle.planning.specs.Place.{Label, Place, slot, inner, Places, stop, also, methodsOf, count}
+use Rattle.planning.specs.Place.{Label, Place, slot, inner, Places, stop, also, methodsOf}
 use Rattle.planning.specs.Variable.{tasksOf, ownVars, partVars, taskVars, methodVars}
 use Rattle.planning.specs.Clause.{notBoth, pairs}
 use Rattle.planning.specs.Model.{Valuation, satisfies}
+use Rattle.planning.proofs.Everywhere.{Everywhere, EverywhereEach}
 use Rattle.planning.proofs.Satisfy.{sat-in, notBoth-in, pairs-out}
 
 module _ {A : Type 0} where
@@ -98,16 +99,18 @@ abbrev mutual
   FitsEach T stop ts = ts ≡ end
   FitsEach T (also p ps) ts = Fits T p (firstTree ts) × FitsEach T ps (laterTrees ts)
 
--- what the places of a table are like
-abbrev mutual
-  pub Regular : Table → Place → Type 0
-  Regular T (slot L) = Distinct (tasksOf (slot L))
-  Regular T (inner L ps) =
-      Distinct (tasksOf (inner L ps)) × Distinct (methodsOf T (L .jobs))
-      × ((m : ℕ) → m ∈ methodsOf T (L .jobs) → length (bodyOf T m) ≤ count ps)
-      × ((s : ℕ) → step s ∈ tasksOf (inner L ps) → 1 ≤ count ps)
-      × RegularEach T ps
+-- what the places of a table are like: no task or method has two variables at a node, and there are children enough for each
+pub record RegularInner (T : Table) (L : Label) (children : ℕ) : Type 0 where
+  pub tasks : Distinct (map step (L .steps) ++ map job (L .jobs))
+  pub methods : Distinct (methodsOf T (L .jobs))
+  pub bodies : (m : ℕ) → m ∈ methodsOf T (L .jobs) → length (bodyOf T m) ≤ children
+  pub steps : (s : ℕ) → s ∈ L .steps → 1 ≤ children
 
-  pub RegularEach : Table → Places → Type 0
-  RegularEach T stop = Unit {0}
-  RegularEach T (also p ps) = Regular T p × RegularEach T ps
+abbrev RegularSlot : Label → Type 0
+RegularSlot L = Distinct (map step (L .steps))
+
+abbrev pub Regular : Table → Place → Type 0
+Regular T = Everywhere RegularSlot (RegularInner T)
+
+abbrev pub RegularEach : Table → Places → Type 0
+RegularEach T = EverywhereEach RegularSlot (RegularInner T)

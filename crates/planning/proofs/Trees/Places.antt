@@ -1,23 +1,24 @@
 -- The places of a table: they are regular, and the trees that fit them are the trees of the table that are not too high.
 -- By recursion on the depth left; a tree fits since child i may hold the ith name of each method.
-use mathlib.Core.Path.{_≡_, refl, ap, _∙_}
+use mathlib.Core.Path.{_≡_, refl}
 use mathlib.Core.Bool.{true, _&&_, _||_}
 use mathlib.Core.List.{List, [], _∷_, map}
 use mathlib.Core.Logic.{inl, inr}
 use mathlib.Core.Option.{none, some}
 use Prim.Native.Nat.{ℕ, zero, suc, _+_, _≤_, _<_}
 use native.Mathlib.Omega.{arith}
-use lib.ListN.{length, getElem?, length-map}
+use lib.ListN.{length, getElem?}
 use lib.Dec.{eqb}
 use Rattle.lists.specs.List.{_∈_, Distinct, from, upTo, has}
 use Rattle.lists.proofs.Bool.{or-l, or-r}
 use Rattle.lists.proofs.Member.{in-left, in-right, in-filter-out, in-filter-in, distinct-filter, any-in, in-map-in, distinct-map, has-in}
-use Rattle.lists.proofs.Number.{upTo-range, distinct-from, length-from, upTo-in}
+use Rattle.lists.proofs.Number.{upTo-range, distinct-from, upTo-in}
 use Rattle.planning.specs.Table.{Task, step, job, Table, jobOf, bodyOf}
 use Rattle.planning.specs.Tree.{Tree, alone, split, Trees, end, next, top, tops, height, greatest, TreeOf, TreesOf}
-use Rattle.planning.specs.Place.{Label, Place, slot, inner, Places, stop, also, methodsOf, longest, oneIfAny, childCount, is, named, childLabel, innerIf, row, place, count}
+use Rattle.planning.specs.Place.{Label, Place, slot, inner, Places, stop, also, methodsOf, longest, oneIfAny, childCount, is, named, childLabel, innerIf, row, place, rootPlace, rootLabel}
 use Rattle.planning.proofs.Task.{same-refl, no-job, step-inj, step-in, step-among, job-among, distinct-tasks}
-use Rattle.planning.proofs.Trees.Hold.{Fits, FitsEach, Regular, RegularEach}
+use Rattle.planning.proofs.Everywhere.{everywhere, childrenOf}
+use Rattle.planning.proofs.Trees.Hold.{Fits, FitsEach, Regular, RegularInner}
 
 longest-le : (T : Table) (ms : List ℕ) (m : ℕ) → m ∈ ms → length (bodyOf T m) ≤ longest T ms
 longest-le T [] m k = absurd k
@@ -28,53 +29,39 @@ one-le : (ss : List ℕ) (s : ℕ) → s ∈ ss → 1 ≤ oneIfAny ss
 one-le [] s m = absurd m
 one-le (x ∷ xs) s m = omega arith
 
-pub count-row : (f : Label → Place) (Ls : List Label) → count (row f Ls) ≡ length Ls
-count-row f [] = refl
-count-row f (L ∷ Ls) = ap suc (count-row f Ls)
-
 module _ (T : Table) where
-  children : ℕ → Label → Places
-  children d L = row (λ M. place T d M) (map (childLabel T L) (upTo (childCount T L)))
-
-  count-children : (d : ℕ) (L : Label) → count (children d L) ≡ childCount T L
-  unfolding children
-  count-children d L = count-row (λ M. place T d M) (map (childLabel T L) (upTo (childCount T L))) ∙ (length-map (upTo (childCount T L)) (childLabel T L) ∙ length-from 0 (childCount T L))
-
-  body-fits : (d : ℕ) (L : Label) (m : ℕ) → m ∈ methodsOf T (L .jobs) → length (bodyOf T m) ≤ count (children d L)
+  -- children enough for each body, and for a step
+  body-fits : (L : Label) (m : ℕ) → m ∈ methodsOf T (L .jobs) → length (bodyOf T m) ≤ childCount T L
   unfolding childCount
-  body-fits d L m k = rw (count-children d L) (let h = longest-le T (methodsOf T (L .jobs)) m k in omega arith)
+  body-fits L m k = omega (arith, longest-le T (methodsOf T (L .jobs)) m k)
 
-  step-fits : (d : ℕ) (L : Label) (s : ℕ) → s ∈ L .steps → 1 ≤ count (children d L)
+  step-fits : (L : Label) (s : ℕ) → s ∈ L .steps → 1 ≤ childCount T L
   unfolding childCount
-  step-fits d L s k = rw (count-children d L) (let h = one-le (L .steps) s k in omega arith)
+  step-fits L s k = omega (arith, one-le (L .steps) s k)
 
-  regular-node : (d : ℕ) (L : Label) (js : List ℕ) → Distinct (L .steps) → Distinct (L .jobs) → RegularEach T (children d L) → Regular T (innerIf js L (children d L))
-  regular-node d L [] ds dj sd = distinct-map step step-inj (L .steps) ds
-  regular-node d L (j ∷ js) ds dj sd = (
-    distinct-tasks (L .steps) (L .jobs) ds dj,
-    distinct-filter (λ m. has (L .jobs) (jobOf T m)) (upTo (length (T .methods))) (distinct-from 0 (length (T .methods))),
-    body-fits d L,
-    λ s m. step-fits d L s (step-among (L .steps) (L .jobs) s m),
-    sd,
-  )
+  record DistinctLabel (L : Label) : Type 0 where
+    steps : Distinct (L .steps)
+    jobs : Distinct (L .jobs)
 
-  regulars-row : (L : Label) (f : Label → Place) (is : List ℕ) → ((i : ℕ) → Regular T (f (childLabel T L i))) → RegularEach T (row f (map (childLabel T L) is))
-  regulars-row L f [] h = tt
-  regulars-row L f (i ∷ is) h = (h i, regulars-row L f is h)
-
-  child-steps : (L : Label) (i : ℕ) → Distinct ((childLabel T L i) .steps)
+  child-distinct : (L : Label) (i : ℕ) → DistinctLabel (childLabel T L i)
   unfolding childLabel
-  child-steps L i = distinct-filter (λ s. named T L i (step s) || (eqb i 0 && has (L .steps) s)) (upTo (length (T .steps))) (distinct-from 0 (length (T .steps)))
+  child-distinct L i = record {
+    steps = distinct-filter (λ s. named T L i (step s) || (eqb i 0 && has (L .steps) s)) (upTo (length (T .steps))) (distinct-from 0 (length (T .steps)));
+    jobs = distinct-filter (λ j. named T L i (job j)) (upTo (T .jobs)) (distinct-from 0 (T .jobs));
+  }
 
-  child-jobs : (L : Label) (i : ℕ) → Distinct ((childLabel T L i) .jobs)
-  unfolding childLabel
-  child-jobs L i = distinct-filter (λ j. named T L i (job j)) (upTo (T .jobs)) (distinct-from 0 (T .jobs))
+  regular-inner : (L : Label) → DistinctLabel L → RegularInner T L (childCount T L)
+  regular-inner L d = record {
+    tasks = distinct-tasks (L .steps) (L .jobs) (d .steps) (d .jobs);
+    methods = distinct-filter (λ m. has (L .jobs) (jobOf T m)) (upTo (length (T .methods))) (distinct-from 0 (length (T .methods)));
+    bodies = body-fits L;
+    steps = step-fits L;
+  }
 
-  pub regular-place : (d : ℕ) (L : Label) → Distinct (L .steps) → Distinct (L .jobs) → Regular T (place T d L)
-  unfolding place children
-  regular-place zero L ds dj = distinct-map step step-inj (L .steps) ds
-  regular-place (suc d) L ds dj =
-      regular-node d L (L .jobs) ds dj (regulars-row L (λ M. place T d M) (upTo (childCount T L)) (λ i. regular-place d (childLabel T L i) (child-steps L i) (child-jobs L i)))
+  pub regular-root : Regular T (rootPlace T)
+  regular-root =
+      everywhere (λ L. Distinct (map step (L .steps))) (RegularInner T) T DistinctLabel child-distinct (λ L d. distinct-map step step-inj (L .steps) (d .steps)) regular-inner
+      (T .depth) (rootLabel T) (record { steps = tt; jobs = (λ m. m, tt) })
 
   -- what fits is a tree of the table, not too high
   pub record Within (L : Label) : Type 0 where
@@ -101,8 +88,8 @@ module _ (T : Table) where
       let r = row-trees d L k is ts (f .1) in
       ((a .0, r .0), omega arith)
 
-  node-tree : (d : ℕ) (L : Label) (js : List ℕ) → Within L → ((ts : Trees) → FitsEach T (children d L) ts → TreesOf T ts × (greatest ts ≤ d))
-      → (t : Tree) → Fits T (innerIf js L (children d L)) (some t) → TreeOf T t × (height t ≤ suc d)
+  node-tree : (d : ℕ) (L : Label) (js : List ℕ) → Within L → ((ts : Trees) → FitsEach T (childrenOf T d L) ts → TreesOf T ts × (greatest ts ≤ d))
+      → (t : Tree) → Fits T (innerIf js L (childrenOf T d L)) (some t) → TreeOf T t × (height t ≤ suc d)
   node-tree d L [] w k t f = slot-tree (suc d) L w t f
   node-tree d L (j ∷ js) w k (alone s) f = (w .steps s (step-among (L .steps) (L .jobs) s (f .0)), omega arith)
   node-tree d L (j ∷ js) w k (split i m ts) f =
@@ -118,7 +105,7 @@ module _ (T : Table) where
       )
 
   pub fits-tree : (d : ℕ) (L : Label) → Within L → (t : Tree) → Fits T (place T d L) (some t) → TreeOf T t × (height t ≤ d)
-  unfolding place children
+  unfolding place
   fits-tree zero L w t f = slot-tree zero L w t f
   fits-tree (suc d) L w t f = node-tree d L (L .jobs) w (row-trees d L (λ M x u g. fits-tree d M x u g) (upTo (childCount T L))) t f
 
@@ -177,25 +164,25 @@ module _ (T : Table) where
       (f (childLabel T L k) t (w .0) (omega arith) (a .0), row-fits d L f (suc k) n ts (w .1) (omega arith) (a .1) (omega arith))
 
   node-fits : (d : ℕ) (L : Label) (js : List ℕ) → L .jobs ≡ js
-      → ((ts : Trees) → TreesOf T ts → greatest ts ≤ d → Allowed L 0 (tops ts) → length (tops ts) ≤ childCount T L → FitsEach T (children d L) ts)
-      → (t : Tree) → TreeOf T t → height t ≤ suc d → InLabel L (top t) → Fits T (innerIf js L (children d L)) (some t)
+      → ((ts : Trees) → TreesOf T ts → greatest ts ≤ d → Allowed L 0 (tops ts) → length (tops ts) ≤ childCount T L → FitsEach T (childrenOf T d L) ts)
+      → (t : Tree) → TreeOf T t → height t ≤ suc d → InLabel L (top t) → Fits T (innerIf js L (childrenOf T d L)) (some t)
   node-fits d L [] e k (alone s) w h m = in-map-in step s (L .steps) m
   node-fits d L [] e k (split j i ts) w h m = absurd (rw e at m)
   node-fits d L (j ∷ js) e k (alone s) w h m = (
     in-left (step s) (map step (L .steps)) (map job (L .jobs)) (in-map-in step s (L .steps) m),
     tt,
-    k (next (alone s) end) (w, tt) (omega arith) (allowed-step L s m w) (rw (count-children d L) at (step-fits d L s m)),
+    k (next (alone s) end) (w, tt) (omega arith) (allowed-step L s m w) (step-fits L s m),
   )
   node-fits d L (j ∷ js) e k (split i m ts) w h x =
       let mm : m ∈ methodsOf T (L .jobs) = in-filter-in (λ m. has (L .jobs) (jobOf T m)) m (upTo (length (T .methods)))
       (upTo-in m (length (T .methods)) (omega (arith, w .1))) (rw (w .2) (has-in (L .jobs) i x)) in (
         in-right (job i) (map step (L .steps)) (map job (L .jobs)) (in-map-in job i (L .jobs) x),
         (mm, w .2, w .3),
-        k ts (w .4) (omega arith) (allowed-body L m mm 0 ts (w .4) (λ c u q. let z : 0 + c ≡ c = omega arith in rw (z, ← (w .3)) q)) (rw (w .3) (rw (count-children d L) at (body-fits d L m mm))),
+        k ts (w .4) (omega arith) (allowed-body L m mm 0 ts (w .4) (λ c u q. let z : 0 + c ≡ c = omega arith in rw (z, ← (w .3)) q)) (rw (w .3) (body-fits L m mm)),
       )
 
   pub tree-fits : (d : ℕ) (L : Label) (t : Tree) → TreeOf T t → height t ≤ d → InLabel L (top t) → Fits T (place T d L) (some t)
-  unfolding place children
+  unfolding place
   tree-fits zero L (alone s) w h m = in-map-in step s (L .steps) m
   tree-fits zero L (split j m ts) w h k = absurd (omega arith)
   tree-fits (suc d) L t w h m = node-fits d L (L .jobs) refl (row-fits d L (λ M u x y z. tree-fits d M u x y z) 0 (childCount T L)) t w h m

@@ -106,7 +106,7 @@ module _ (T : Table) (v : Valuation) where
     slot-steps (slot L) b o sd i f =
         ap (λ (l : List ℕ). l ++ []) (ones-hot v b (L .steps) (shownStep o) (distinct-steps (L .steps) sd) (hot-steps v b (L .steps) o i) (held-step (L .steps) o f))
         ∙ slot-list (L .steps) o f
-    slot-steps (inner L ps) b o sd i f = slots-steps ps (b + ownVars T L) (below o) (sd .4) (i .2) (f .2) ∙ steps-below o
+    slot-steps (inner L ps) b o sd i f = slots-steps ps (b + ownVars T L) (below o) (sd .1) (i .2) (f .2) ∙ steps-below o
 
     pub slots-steps : (ps : Places) (b : ℕ) (ts : Trees) → RegularEach T ps → HoldsEach T v ps b ts → FitsEach T ps ts → slotSteps v (slotsVars T ps b) ≡ treesSteps ts
     slots-steps stop b ts sd i f = ap treesSteps (sym f)
@@ -132,7 +132,7 @@ module _ (T : Table) (v : Valuation) where
     pub slots-one : (p : Place) (b : ℕ) (o : Option Tree) → Regular T p → Holds T v p b o → Fits T p o → (xs : List (ℕ × ℕ)) → xs ∈ slotVars T p b → OneAt xs
     slots-one (slot L) b o sd i f xs (inl e) = subst OneAt (sym e) (slot-one L b o sd i f)
     slots-one (slot L) b o sd i f xs (inr m) = absurd m
-    slots-one (inner L ps) b o sd i f xs m = slots-ones ps (b + ownVars T L) (below o) (sd .4) (i .2) (f .2) xs m
+    slots-one (inner L ps) b o sd i f xs m = slots-ones ps (b + ownVars T L) (below o) (sd .1) (i .2) (f .2) xs m
 
     pub slots-ones : (ps : Places) (b : ℕ) (ts : Trees) → RegularEach T ps → HoldsEach T v ps b ts → FitsEach T ps ts → (xs : List (ℕ × ℕ)) → xs ∈ slotsVars T ps b → OneAt xs
     slots-ones stop b ts sd i f xs m = absurd m

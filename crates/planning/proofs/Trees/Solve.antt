@@ -19,7 +19,7 @@ use Rattle.planning.specs.Place.{Label, Place, slot, inner, Places, stop
 use Rattle.planning.specs.Variable.{tasksOf, ownVars, partVars, taskVars, methodVars, childVars}
 use Rattle.planning.specs.Clause.{neg, Clause, allPos, notBoth, varOf, bodyClauses, innerClauses, rule2, rules2}
 use Rattle.planning.specs.Model.{Valuation, clauseTrue, satisfies}
-use Rattle.planning.proofs.Task.{no-job}
+use Rattle.planning.proofs.Task.{no-job, step-among}
 use Rattle.planning.proofs.Satisfy.{pass-body, sat-l, sat-r, imp-out, allPos-out, notBoth-out, varOf-out, up-out}
 use Rattle.planning.proofs.Trees.Hold.{Hot, Pick, hot-of-pick, shownTask, Holds, HoldsEach, Fits, FitsEach, Regular, RegularEach}
 use Rattle.planning.proofs.Trees.Letters.{Node, node-out}
@@ -74,7 +74,7 @@ module _ (T : Table) (v : Valuation) where
     inner-none p = let s = k [] (nothing-below p) in go (s .0) (s .1) (s .2) (s .3)
       where
         hot : Hot v (taskVars (inner L ps) b) none
-        hot = hot-of-pick v b (tasksOf (inner L ps)) none (sd .0) (n .a) p
+        hot = hot-of-pick v b (tasksOf (inner L ps)) none (sd .0 .tasks) (n .a) p
 
         go : (ts : Trees) → tops ts ≡ [] → HoldsEach T v ps (b + ownVars T L) ts → FitsEach T ps ts → Solution (inner L ps) b none
         go end e i f = (none, refl, (hot, no-method none hot (λ j q. none≢some q), i), (tt, tt, f))
@@ -85,10 +85,10 @@ module _ (T : Table) (v : Valuation) where
       where
         given : Given T v ps (b + ownVars T L) (step s ∷ [])
         given = body-given ps (b + ownVars T L) (p .0) (step s ∷ []) (p .2)
-            (subst (λ (l : List Clause). satisfies v l ≡ true) (pass-body (p .0) s (childVars T ps (b + ownVars T L))) (n .f (p .0, step s) (p .1))) (sd .3 s (number-thing b (tasksOf (inner L ps)) (p .0, step s) (p .1)))
+            (subst (λ (l : List Clause). satisfies v l ≡ true) (pass-body (p .0) s (childVars T ps (b + ownVars T L))) (n .f (p .0, step s) (p .1))) (sd .0 .steps s (step-among (L .steps) (L .jobs) s (number-thing b (tasksOf (inner L ps)) (p .0, step s) (p .1))))
 
         hot : Hot v (taskVars (inner L ps) b) (some (step s))
-        hot = hot-of-pick v b (tasksOf (inner L ps)) (some (step s)) (sd .0) (n .a) p
+        hot = hot-of-pick v b (tasksOf (inner L ps)) (some (step s)) (sd .0 .tasks) (n .a) p
 
         hotm : Hot v (methodVars T L b) none
         hotm = no-method (some (step s)) hot (λ j q. let z : _≡_ {A = ℕ} 0 1 = cc in omega arith)
@@ -115,16 +115,16 @@ module _ (T : Table) (v : Valuation) where
         q = in-filter-out mine (x .0) (methodVars T L b) (x .1)
 
         hot : Hot v (taskVars (inner L ps) b) (some (job j))
-        hot = hot-of-pick v b (tasksOf (inner L ps)) (some (job j)) (sd .0) (n .a) p
+        hot = hot-of-pick v b (tasksOf (inner L ps)) (some (job j)) (sd .0 .tasks) (n .a) p
 
         go : (y : ℕ × ℕ) → y ∈ methodVars T L b → jobOf T (y .1) ≡ j → v (y .0) ≡ true → Solution (inner L ps) b (some (job j))
         go y my e t =
             let m = y .1 in
             let mm : m ∈ methodsOf T (L .jobs) = number-thing (b + (length (L .steps) + length (L .jobs))) (methodsOf T (L .jobs)) y my in
-            let r = k (bodyOf T m) (body-given ps (b + ownVars T L) (y .0) (bodyOf T m) t (n .e y my) (sd .2 m mm)) in (
+            let r = k (bodyOf T m) (body-given ps (b + ownVars T L) (y .0) (bodyOf T m) t (n .e y my) (sd .0 .bodies m mm)) in (
               some (split j m (r .0)),
               refl,
-              (hot, hot-of-pick v (b + (length (L .steps) + length (L .jobs))) (methodsOf T (L .jobs)) (some m) (sd .1) (n .b) (y .0, my, t), r .2),
+              (hot, hot-of-pick v (b + (length (L .steps) + length (L .jobs))) (methodsOf T (L .jobs)) (some m) (sd .0 .methods) (n .b) (y .0, my, t), r .2),
               (number-thing b (tasksOf (inner L ps)) (p .0, job j) (p .1), (mm, e, r .1), r .3),
             )
 
@@ -160,7 +160,7 @@ module _ (T : Table) (v : Valuation) where
         let nc = innerClauses T (taskVars (inner L ps) b) (methodVars T L b) (childVars T ps (b + ownVars T L)) in
         inner-solution L ps b sd
         (node-out T v (taskVars (inner L ps) b) (methodVars T L b) (childVars T ps (b + ownVars T L)) (sat-l v nc (rules2 T ps (b + ownVars T L)) s))
-        (λ os h. solves ps (b + ownVars T L) os (sd .4) (sat-r v nc (rules2 T ps (b + ownVars T L)) s) h) o g
+        (λ os h. solves ps (b + ownVars T L) os (sd .1) (sat-r v nc (rules2 T ps (b + ownVars T L)) s) h) o g
 
     pub solves : (ps : Places) (b : ℕ) (os : List Task) → RegularEach T ps → satisfies v (rules2 T ps b) ≡ true → Given T v ps b os → Solutions ps b os
     solves stop b [] sd s g = (end, refl, tt, refl)

@@ -16,12 +16,12 @@ use Rattle.planning.specs.Variable.{tasksOf, taskVars, nodeVars, slots}
 use Rattle.planning.specs.Clause.{Clause, varOf, rule1, rule2}
 use Rattle.planning.specs.Model.{Valuation, clauseTrue, satisfies, value, chosen, read}
 use Rattle.planning.proofs.Satisfy.{trueOnes, listOf, slotSteps, varOf-out, varOf-in}
-use Rattle.planning.proofs.Trees.Hold.{Hot, shownTask, Holds, Fits, Regular}
+use Rattle.planning.proofs.Trees.Hold.{Hot, shownTask, Holds, Fits}
 use Rattle.planning.proofs.Trees.Solve.{solve}
 use Rattle.planning.proofs.Trees.Complete.{hot-top, held-top, true-of, complete}
 use Rattle.planning.proofs.Trees.Read.{read-holds, slot-steps, slots-one}
 use Rattle.planning.proofs.Trees.Agree.{holds-agree, holds-same}
-use Rattle.planning.proofs.Trees.Places.{regular-place, fits-tree, InLabel, tree-fits, Within}
+use Rattle.planning.proofs.Trees.Places.{fits-tree, InLabel, tree-fits, Within, regular-root}
 use Rattle.planning.proofs.Trees.Encode.{encode, length-encode, encode-holds}
 
 -- rules 1 and 2
@@ -32,9 +32,6 @@ abbrev pub treeOf : Table → Valuation → Option Tree
 treeOf T v = read T v (rootPlace T) 1
 
 module _ (T : Table) where
-  regular-root : Regular T (rootPlace T)
-  regular-root = regular-place T (T .depth) (rootLabel T) tt (λ m. m, tt)
-
   -- a valuation that satisfies rules 1 and 2 holds a tree
   abbrev HoldsTree : Valuation → Type 0
   HoldsTree v = (t : Tree) × (top t ≡ job (T .root)) × Holds T v (rootPlace T) 1 (some t) × Fits T (rootPlace T) (some t)
@@ -42,7 +39,7 @@ module _ (T : Table) where
   holds : (v : Valuation) → satisfies v (treeFormula T) ≡ true → HoldsTree v
   holds v s =
       let p = varOf-out v (job (T .root)) (taskVars (rootPlace T) 1) (and-l (clauseTrue v (varOf (job (T .root)) (taskVars (rootPlace T) 1))) (satisfies v (rule2 T (rootPlace T) 1)) s) in
-      let r = solve T v (rootPlace T) 1 (some (job (T .root))) regular-root (and-r (clauseTrue v (varOf (job (T .root)) (taskVars (rootPlace T) 1))) (satisfies v (rule2 T (rootPlace T) 1)) s) p in
+      let r = solve T v (rootPlace T) 1 (some (job (T .root))) (regular-root T) (and-r (clauseTrue v (varOf (job (T .root)) (taskVars (rootPlace T) 1))) (satisfies v (rule2 T (rootPlace T) 1)) s) p in
       go (r .0) (r .1) (r .2) (r .3)
     where
       go : (o : Option Tree) → shownTask o ≡ some (job (T .root)) → Holds T v (rootPlace T) 1 o → Fits T (rootPlace T) o → HoldsTree v
@@ -87,7 +84,7 @@ module _ (T : Table) where
           let x = true-of T v 1 (tasksOf (rootPlace T)) (top t) (hot-top T v (rootPlace T) 1 (some t) i) (held-top T v (rootPlace T) (some t) f) in (
             and-in (clauseTrue v (varOf (job (T .root)) (taskVars (rootPlace T) 1))) (satisfies v (rule2 T (rootPlace T) 1))
                 (subst (λ (u : Task). clauseTrue v (varOf u (taskVars (rootPlace T) 1)) ≡ true) e (varOf-in v (top t) (taskVars (rootPlace T) 1) (x .0) (x .1) (x .2)))
-                (complete T v (rootPlace T) 1 (some t) regular-root i f),
+                (complete T v (rootPlace T) 1 (some t) (regular-root T) i f),
             read-holds T v (rootPlace T) 1 (some t) i f,
           )
 
@@ -96,9 +93,9 @@ module _ (T : Table) where
   steps-in-order v s t e =
       let r = holds v s in
       let z : r .0 ≡ t = some-inj (sym (read-holds T v (rootPlace T) 1 (some (r .0)) (r .2) (r .3)) ∙ e) in
-      slot-steps T v (rootPlace T) 1 (some (r .0)) regular-root (r .2) (r .3) ∙ ap treeSteps z
+      slot-steps T v (rootPlace T) 1 (some (r .0)) (regular-root T) (r .2) (r .3) ∙ ap treeSteps z
 
   -- at each slot at most one step is true, and it is the one that is chosen there
   pub one-at-a-slot : (v : Valuation) → satisfies v (treeFormula T) ≡ true → (xs : List (ℕ × ℕ)) → xs ∈ slots T
       → Hot v xs (chosen v xs) × (trueOnes v xs ≡ listOf (chosen v xs))
-  one-at-a-slot v s = let r = holds v s in slots-one T v (rootPlace T) 1 (some (r .0)) regular-root (r .2) (r .3)
+  one-at-a-slot v s = let r = holds v s in slots-one T v (rootPlace T) 1 (some (r .0)) (regular-root T) (r .2) (r .3)
