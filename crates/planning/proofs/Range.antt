@@ -9,9 +9,9 @@ use Rattle.lists.specs.List.{_∈_}
 use Rattle.lists.proofs.Member.{in-append}
 use Rattle.lists.proofs.Number.{number-range}
 use Rattle.planning.specs.Table.{Task, step, Table}
-use Rattle.planning.specs.Place.{Label, Place, slot, inner, Places, stop, also, methodsOf}
-use Rattle.planning.specs.Variable.{tasksOf, ownVars, partVars, partsVars, taskVars, methodVars, childVars, slotVars, slotsVars}
-use Rattle.planning.proofs.Task.{length-tasks}
+use Rattle.planning.specs.Place.{Place, slot, inner, Places, stop, also}
+use Rattle.planning.specs.Variable.{tasksOf, ownVars, partVars, partsVars, taskVars, methodVars, childVars, slotVars, slotsVars, methodsAt}
+use Rattle.planning.proofs.Task.{step-vars}
 
 -- n is one of the k variables from b on
 abbrev pub InRange : (b k n : ℕ) → Type 0
@@ -19,11 +19,11 @@ InRange b k n = (b ≤ n) × (n < b + k)
 
 module _ (T : Table) where
   pub task-range : (p : Place) (b : ℕ) (x : ℕ × Task) → x ∈ taskVars p b → InRange b (partVars T p) (x .0)
-  task-range (slot L) b x m = number-range b (tasksOf (slot L)) x m
-  task-range (inner L ps) b x m = let r = number-range b (tasksOf (inner L ps)) x m in (r .0, omega (arith, length-tasks (L .steps) (L .jobs)))
+  task-range (slot L) b x m = let r = number-range b (tasksOf (slot L)) x m in (r .0, omega arith)
+  task-range (inner L ps) b x m = let r = number-range b (tasksOf (inner L ps)) x m in (r .0, omega arith)
 
-  pub method-range : (L : Label) (b : ℕ) (x : ℕ × ℕ) → x ∈ methodVars T L b → InRange b (ownVars T L) (x .0)
-  method-range L b x m = let r = number-range (b + (length (L .steps) + length (L .jobs))) (methodsOf T (L .jobs)) x m in (omega arith, omega arith)
+  pub method-range : (p : Place) (b : ℕ) (x : ℕ × ℕ) → x ∈ methodVars T p b → InRange b (ownVars T p) (x .0)
+  method-range p b x m = let r = number-range (b + length (tasksOf p)) (methodsAt T p) x m in (omega arith, omega arith)
 
   pub child-range : (ps : Places) (b : ℕ) (c : List (ℕ × Task)) → c ∈ childVars T ps b → (x : ℕ × Task) → x ∈ c → InRange b (partsVars T ps) (x .0)
   child-range stop b c k x m = absurd k
@@ -32,9 +32,9 @@ module _ (T : Table) where
 
   mutual
     pub slot-range : (p : Place) (b : ℕ) (xs : List (ℕ × ℕ)) → xs ∈ slotVars T p b → (x : ℕ × ℕ) → x ∈ xs → InRange b (partVars T p) (x .0)
-    slot-range (slot L) b xs (inl e) x m = let r = number-range b (L .steps) x (rw e at m) in (r .0, omega (arith, length-map (L .steps) step))
+    slot-range (slot L) b xs (inl e) x m = let r = number-range b (L .steps) x (rw (e, step-vars b (L .steps)) at m) in (r .0, omega (arith, length-map (L .steps) step))
     slot-range (slot L) b xs (inr k) x m = absurd k
-    slot-range (inner L ps) b xs k x m = let r = slots-range ps (b + ownVars T L) xs k x m in (omega arith, omega arith)
+    slot-range (inner L ps) b xs k x m = let r = slots-range ps (b + ownVars T (inner L ps)) xs k x m in (omega arith, omega arith)
 
     pub slots-range : (ps : Places) (b : ℕ) (xs : List (ℕ × ℕ)) → xs ∈ slotsVars T ps b → (x : ℕ × ℕ) → x ∈ xs → InRange b (partsVars T ps) (x .0)
     slots-range stop b xs k x m = absurd k

@@ -3,3 +3,4 @@ pub mod Try
 pub mod Test
 pub mod Marked
 pub mod Worked
+pub mod Rich

@@ -4,13 +4,14 @@ use mathlib.Core.Path.{_≡_, refl, sym, ap, _∙_, subst}
 use mathlib.Core.Bool.{true}
 use mathlib.Core.List.{List, [], _∷_, _++_, map}
 use mathlib.Core.Logic.{_⊎_, inl, inr}
-use Prim.Native.Nat.{ℕ, _+_}
+use Prim.Native.Nat.{ℕ, _+_, suc}
 use native.Mathlib.Omega.{arith}
 use lib.ListN.{length, length-map, length-append}
-use Rattle.lists.specs.List.{_∈_, Distinct}
+use Rattle.lists.specs.List.{_∈_, Distinct, number}
 use Rattle.lists.proofs.Bool.{clash, eqb-sound, eqb-same}
 use Rattle.lists.proofs.Member.{in-append, in-map-out, distinct-append, distinct-map}
 use Rattle.planning.specs.Table.{Task, step, job, same}
+use Rattle.planning.specs.Variable.{stepVars}
 
 pub same-sound : (t u : Task) → same t u ≡ true → t ≡ u
 same-sound (step s) (step r) h = ap step (eqb-sound s r h)
@@ -71,3 +72,8 @@ module _ (ss js : List ℕ) where
 
   pub length-tasks : length (map step ss ++ map job js) ≡ length ss + length js
   length-tasks = length-append (map step ss) (map job js) ∙ cc (length-map ss step, length-map js job)
+
+-- Numbered steps -------------------------------------------------------------------------------------------------------------
+pub step-vars : (b : ℕ) (ss : List ℕ) → stepVars (number b (map step ss)) ≡ number b ss
+step-vars b [] = refl
+step-vars b (s ∷ ss) = ap (λ (l : List (ℕ × ℕ)). (b, s) ∷ l) (step-vars (suc b) ss)

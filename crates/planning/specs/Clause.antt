@@ -55,16 +55,16 @@ jobClause T methods x = elim (x .1) [ step s ↦ [] | job j ↦ (neg (x .0) ∷ 
 abbrev pub methodClause : Table → List (ℕ × Task) → ℕ × ℕ → Clause
 methodClause T tasks m = neg (m .0) ∷ varOf (job (jobOf T (m .1))) tasks
 
--- (e), *applyMethod*, of one method, with variable n: "[for each] child in order: if the body has a name there, the method negated then that task at
--- the child, or the method negated alone if that task has no variable; otherwise, for each task variable of the child, the method and
--- it, both negated"
+-- (e), *applyMethod*, of one method, with variable n: "[for each] child in order: if the body has a name there, the method negated then
+-- that task at the child, or the method negated alone if that task has no variable; otherwise, for each task variable of the child, the
+-- method and it, both negated"
 abbrev pub bodyClauses : ℕ → List Task → List (List (ℕ × Task)) → List Clause
 bodyClauses n ts [] = []
 bodyClauses n [] (c ∷ cs) = notBoth n c ++ bodyClauses n [] cs
 bodyClauses n (t ∷ ts) (c ∷ cs) = (neg n ∷ varOf t c) ∷ bodyClauses n ts cs
 
--- (f), *inheritPrimitive*, of one step s, with variable n: "negated, then the same step at child 1, then for each task variable of children 2 and up, the
--- step and it, both negated". (An inner node that may hold a step has a child 1.)
+-- (f), *inheritPrimitive*, of one step s, with variable n: "negated, then the same step at child 1, then for each task variable of
+-- children 2 and up, the step and it, both negated". (An inner node that may hold a step has a child 1.)
 abbrev pub passClauses : ℕ → ℕ → List (List (ℕ × Task)) → List Clause
 passClauses n s [] = []
 passClauses n s (c ∷ cs) = (neg n ∷ varOf (step s) c) ∷ concatMap (λ d. notBoth n d) cs
@@ -92,13 +92,14 @@ abbrev mutual
   pub rule2 : Table → Place → ℕ → List Clause
   rule2 T (slot L) b = pairs (taskVars (slot L) b)
   rule2 T (inner L ps) b =
-      innerClauses T (taskVars (inner L ps) b) (methodVars T L b) (childVars T ps (b + ownVars T L)) ++ rules2 T ps (b + ownVars T L)
+      innerClauses T (taskVars (inner L ps) b) (methodVars T (inner L ps) b) (childVars T ps (b + ownVars T (inner L ps))) ++ rules2 T ps (b + ownVars T (inner L ps))
 
   pub rules2 : Table → Places → ℕ → List Clause
   rules2 T stop b = []
   rules2 T (also p ps) b = rule2 T p b ++ rules2 T ps (b + partVars T p)
 
 -- Rule 3 -------------------------------------------------------------------------------------------------------------------
+-- the variable where the test passed, else the variable negated
 abbrev pub literal : Bool → ℕ → Lit
 literal true n = pos n
 literal false n = neg n
@@ -116,8 +117,8 @@ factsThat T p = filter p (upTo (T .facts))
 abbrev pub drops : Step → ℕ → Bool
 drops s f = has (s .clears) f && not (has (s .sets) f)
 
--- *action*, at the slot between boundaries i and i + 1: "for each step variable, with the step negated first: needed facts before; set facts
--- after; cleared and not set facts after, negated; facts rising"
+-- *action*, at the slot between boundaries i and i + 1: "for each step variable, with the step negated first: needed facts before; set
+-- facts after; cleared and not set facts after, negated; facts rising"
 abbrev pub effectClauses : Table → (b i : ℕ) → ℕ × ℕ → List Clause
 effectClauses T b i x =
     map (λ f. neg (x .0) ∷ pos (factVar T b i f) ∷ []) (factsThat T (has ((stepOf T (x .1)) .needs)))
@@ -141,6 +142,6 @@ rule4 T b i [] = []
 rule4 T b i (xs ∷ xss) = (concatMap (effectClauses T b i) xs ++ frameClauses T b i xs) ++ rule4 T b (suc i) xss
 
 -- The formula --------------------------------------------------------------------------------------------------------------
--- "The formula is the clauses below over these variables, defined by the table and not by lent records." "Clauses, in this order"
+-- a formula in conjunctive normal form (CNF). "The formula is the clauses below over these variables, defined by the table and not by lent records." "Clauses, in this order"
 abbrev pub formula : Table → List Clause
 formula T = rule1 T ++ (rule2 T (rootPlace T) 1 ++ (rule3 T (firstFactVar T) ++ rule4 T (firstFactVar T) 0 (slots T)))

@@ -1,6 +1,6 @@
 -- Demand 3 for the formula of a table: its models and the procedure trees that are wanted match one to one. The statement alone;
--- proofs/Demand3.antt proves it of every table that keeps the reader's promises. (The first part, of answer files, comes with them.)
--- Assumes nothing.
+-- proofs/Demand3.antt proves it of every table that keeps the reader's promises. The quotations here are of the demand itself, of which
+-- the part on answer files comes with these. Assumes nothing.
 use mathlib.Core.Path.{_≡_}
 use mathlib.Core.Bool.{Bool, true}
 use mathlib.Core.List.{List}
@@ -29,7 +29,8 @@ pub record GivenByAModel (T : Table) (t : Tree) : Type 0 where
   pub model : Model T values
   pub gives : Gives T values t
 
--- "it starts at the root job, is no higher than the depth, and its steps can be done left to right from the initial facts"
+-- "it starts at the root job, is no higher than the depth, and its steps can be done left to right from the initial facts":
+-- the decomposition tree of a solution, with a bound on its height
 pub record Wanted (T : Table) (t : Tree) : Type 0 where
   pub starts : top t ≡ job (T .root)
   pub low : height t ≤ T .depth

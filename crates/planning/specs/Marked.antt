@@ -25,7 +25,7 @@ pub record Models (T : Table) (n : ℕ) : Type 0 where
 -- The tables -----------------------------------------------------------------------------------------------------------------
 -- one fact, open; one step, lift; one job, serve, which is the root
 abbrev pub table : Step → List Method → List ℕ → ℕ → Table
-table lift methods start depth = record { facts = 1; steps = lift ∷ []; jobs = 1; methods = methods; start = start; root = 0; depth = depth }
+table only methods start depth = record { facts = 1; steps = only ∷ []; jobs = 1; methods = methods; start = start; root = 0; depth = depth }
 
 -- a method of serve
 abbrev pub by : List Task → Method
@@ -52,8 +52,8 @@ deeper = table lift (by (step 0 ∷ []) ∷ []) [] 2
 abbrev pub emptyBody : Table
 emptyBody = table lift (by [] ∷ []) [] 1
 
-abbrev pub noMethods : Table
-noMethods = table lift [] [] 1
+abbrev pub withoutMethods : Table
+withoutMethods = table lift [] [] 1
 
 abbrev pub serveAndLift : Table
 serveAndLift = table lift (by (job 0 ∷ []) ∷ by (step 0 ∷ []) ∷ []) [] 1
@@ -74,7 +74,9 @@ abbrev pub setsAndClears : Table
 setsAndClears = table liftSetsAndClears (by (step 0 ∷ []) ∷ []) [] 1
 
 abbrev pub ten : List Table
-ten = shown ∷ deeper ∷ emptyBody ∷ noMethods ∷ serveAndLift ∷ serveAndLiftDeeper ∷ twice ∷ needsOpen ∷ needsOpenAtStart ∷ setsAndClears ∷ []
+ten =
+    shown ∷ deeper ∷ emptyBody ∷ withoutMethods ∷ serveAndLift ∷ serveAndLiftDeeper ∷ twice ∷ needsOpen ∷ needsOpenAtStart ∷ setsAndClears
+    ∷ []
 
 -- "p cnf 5 9", "1 0", "-1 2 0", "-2 1 0", "-2 3 0", "1 -3 0", "-4 0", "-3 5 0", "-4 5 0", "4 -5 3 0", LF after each
 abbrev pub shownText : List ℕ
@@ -86,7 +88,7 @@ shownText =
 
 -- What is said of them ---------------------------------------------------------------------------------------------------
 pub record Marked : Type 0 where
-  -- all ten are accepted, so that demand 3 speaks of them
+  -- all ten meet what is known of an accepted table, so that demand 3 speaks of them
   pub accepted : Every Accepted ten
   -- the text shown. "As shown: one model."
   pub shown-text : text shown ≡ shownText
@@ -101,18 +103,19 @@ pub record Marked : Type 0 where
   pub empty-models : Models emptyBody 1
   pub empty-steps : (vs : List Bool) (t : Tree) → Model emptyBody vs → Gives emptyBody vs t → treeSteps t ≡ []
   -- "No M line: 2 variables, 3 clauses, no model."
-  pub none-variables : variables noMethods ≡ 2
-  pub none-clauses : length (formula noMethods) ≡ 3
-  pub none-models : Models noMethods 0
-  -- "Methods `serve` and `lift`, depth 1: one model. The same, depth 2: two."
+  pub none-variables : variables withoutMethods ≡ 2
+  pub none-clauses : length (formula withoutMethods) ≡ 3
+  pub none-models : Models withoutMethods 0
+  -- "Methods `serve` and `lift`, depth 1: one model." "The same, depth 2: two."
   pub both-models : Models serveAndLift 1
   pub both-deeper-models : Models serveAndLiftDeeper 2
   -- "The M line twice: two."
   pub twice-models : Models twice 2
-  -- "lift needs open: none. That, with open at the start: one."
+  -- "lift needs open: none." "That, with open at the start: one."
   pub needs-models : Models needsOpen 0
   pub needs-start-models : Models needsOpenAtStart 1
   -- "lift sets and clears open: one, open true after": after the tree's steps, and at the last boundary
   pub clears-models : Models setsAndClears 1
-  pub clears-after : (vs : List Bool) (t : Tree) → Model setsAndClears vs → Gives setsAndClears vs t → run setsAndClears (treeSteps t) (initial setsAndClears) 0 ≡ true
+  pub clears-after : (vs : List Bool) (t : Tree) → Model setsAndClears vs → Gives setsAndClears vs t
+      → run setsAndClears (treeSteps t) (initial setsAndClears) 0 ≡ true
   pub clears-boundary : (vs : List Bool) → Model setsAndClears vs → value vs (factVar setsAndClears (firstFactVar setsAndClears) 1 0) ≡ true

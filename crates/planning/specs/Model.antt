@@ -17,6 +17,7 @@ use Rattle.planning.specs.Clause.{Lit, pos, neg, Clause, formula}
 abbrev pub Valuation : Type 0
 Valuation = ℕ → Bool
 
+-- "a variable that is true or a negated one that is false"
 abbrev pub litTrue : Valuation → Lit → Bool
 litTrue v (pos n) = v n
 litTrue v (neg n) = not (v n)
@@ -25,6 +26,7 @@ litTrue v (neg n) = not (v n)
 abbrev pub clauseTrue : Valuation → Clause → Bool
 clauseTrue v c = any (litTrue v) c
 
+-- does every one of these clauses?
 abbrev pub satisfies : Valuation → List Clause → Bool
 satisfies v cs = all (clauseTrue v) cs
 
@@ -40,15 +42,17 @@ pub record Model (T : Table) (vs : List Bool) : Type 0 where
 
 -- The tree that a model gives ----------------------------------------------------------------------------------------------
 module _ {A : Type 0} where
+  -- a where the test passed, else o
   abbrev pub orElse : Bool → A → Option A → Option A
   orElse true a o = some a
   orElse false a o = o
 
-  -- that one of these whose variable is true; in a model there is at most one, by rule 2(a) and (b)
+  -- that one of these whose variable is true, the first where there are several; in a model there is at most one, by rule 2(a) and (b)
   abbrev pub chosen : Valuation → List (ℕ × A) → Option A
   chosen v [] = none
   chosen v (x ∷ xs) = orElse (v (x .0)) (x .1) (chosen v xs)
 
+-- job j with method m and these trees, and a tree before others, where there are such
 abbrev pub splitWith : ℕ → ℕ → Option Trees → Option Tree
 splitWith j m none = none
 splitWith j m (some ts) = some (split j m ts)
@@ -69,7 +73,7 @@ treeAt T (some (job j)) (some m) below = splitWith j m (below (bodyOf T m))
 abbrev mutual
   pub read : Table → Valuation → Place → ℕ → Option Tree
   read T v (slot L) b = treeAt T (chosen v (taskVars (slot L) b)) none (λ ts. none)
-  read T v (inner L ps) b = treeAt T (chosen v (taskVars (inner L ps) b)) (chosen v (methodVars T L b)) (λ ts. reads T v ps (b + ownVars T L) ts)
+  read T v (inner L ps) b = treeAt T (chosen v (taskVars (inner L ps) b)) (chosen v (methodVars T (inner L ps) b)) (λ ts. reads T v ps (b + ownVars T (inner L ps)) ts)
 
   -- "for each name of its body in order, the tree read at that child"
   pub reads : Table → Valuation → Places → ℕ → List Task → Option Trees
@@ -82,5 +86,6 @@ abbrev mutual
 abbrev pub given : Table → List Bool → Option Tree
 given T vs = read T (value vs) (rootPlace T) 1
 
+-- these values give the tree t
 abbrev pub Gives : Table → List Bool → Tree → Type 0
 Gives T vs t = given T vs ≡ some t

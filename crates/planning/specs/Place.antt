@@ -14,7 +14,8 @@ pub record Label : Type 0 where
   pub steps : List ℕ
   pub jobs : List ℕ
 
--- A place is a node with the part below it. A slot is a leaf, with room for at most one step of the plan; "a slot has no children".
+-- A place is a node with the part (subtree) below it; `Places` is a list of them. A slot has room for at most one step of the plan: it
+-- is the paper's leaf, while an inner node without children is none. "a slot has no children"
 mutual
   pub data Place : Type 0 where
     slot : Label → Place
@@ -28,6 +29,7 @@ mutual
 abbrev pub methodsOf : Table → List ℕ → List ℕ
 methodsOf T js = filter (λ m. has js (jobOf T m)) (upTo (length (T .methods)))
 
+-- "the longest body among" these methods
 abbrev pub longest : Table → List ℕ → ℕ
 longest T [] = 0
 longest T (m ∷ ms) = max (length (bodyOf T m)) (longest T ms)
@@ -41,6 +43,7 @@ oneIfAny (s ∷ ss) = 1
 unfoldable pub childCount : Table → Label → ℕ
 childCount T L = max (oneIfAny (L .steps)) (longest T (methodsOf T (L .jobs)))
 
+-- is there a name, and is it t?
 abbrev pub is : Option Task → Task → Bool
 is none t = false
 is (some u) t = same u t
@@ -62,6 +65,7 @@ abbrev pub innerIf : List ℕ → Label → Places → Place
 innerIf [] L ps = slot L
 innerIf (j ∷ js) L ps = inner L ps
 
+-- the places of these labels, one after the other
 abbrev pub row : (Label → Place) → List Label → Places
 row f [] = stop
 row f (L ∷ Ls) = also (f L) (row f Ls)

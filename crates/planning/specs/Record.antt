@@ -6,7 +6,7 @@ use Rattle.planning.specs.Table.{Table}
 use Rattle.planning.specs.Place.{Label, Place, slot, inner, Places, stop, also, rootPlace, nodes, count}
 
 -- "A record holds the node's depth, its parent's number (0 at the root), its child count, and the sets of steps and of jobs it may
--- hold." A slot keeps its jobs here, though they have no variables
+-- hold." A slot keeps its jobs here, though they have no variables. The child count of an inner node is `childCount`
 pub record Record : Type 0 where
   pub depth : ℕ
   pub parent : ℕ

@@ -8,7 +8,7 @@ use lib.Dec.{eqb}
 use Rattle.lists.specs.List.{Every, Rising}
 
 -- "Facts, steps, jobs and methods are each numbered from 0 in file order." Each is known by its number here.
--- A task is a step (the field's primitive task, an operator or action) or a job (compound task).
+-- A task is a step (the field's primitive task, an operator or action) or a job (compound or abstract task).
 pub data Task : Type 0 where
   step : ℕ → Task
   job : ℕ → Task
@@ -29,6 +29,7 @@ pub record Step : Type 0 where
 
 -- M: "job name, body: a list of steps and jobs": a decomposition method, with a totally ordered task network
 pub record Method : Type 0 where
+  -- whose method it is: a job's number
   pub of : ℕ
   pub body : List Task
 
@@ -45,7 +46,8 @@ pub record Table : Type 0 where
   pub root : ℕ
   pub depth : ℕ
 
--- what stands past the last step and past the last method
+-- what stands past the last step and past the last method, so that look-up always has an answer; the reader's promises, below, keep
+-- every number of a table within it
 abbrev pub noStep : Step
 noStep = record { needs = []; sets = []; clears = [] }
 

@@ -1,4 +1,5 @@
--- The text of a formula, as lines of bytes: the DIMACS CNF form.
+-- The text of a formula, as lines of bytes: the DIMACS CNF form. Bytes are numbers: 10 is LF, 32 a space, 45 a minus, 48 to 57 are the
+-- digits 0 to 9, and 112, 99, 110, 102 are p, c, n, f.
 -- Assumes nothing.
 use mathlib.Core.Bool.{cond}
 use mathlib.Core.List.{List, [], _∷_, _++_, map}
@@ -19,15 +20,6 @@ digits (suc k) n rest = cond (ltb n 10) ((48 + n) ∷ rest) (digits k (n / 10) (
 -- n has at most n + 1 digits
 abbrev pub decimal : ℕ → List ℕ
 decimal n = digits (suc n) n []
-
--- a numeral read from the left, behind a number n that was read before it
-abbrev pub readDecimal : ℕ → List ℕ → ℕ
-readDecimal n [] = n
-readDecimal n (d ∷ ds) = readDecimal (n * 10 + (d - 48)) ds
-
--- a digit's byte
-abbrev pub Digit : ℕ → Type 0
-Digit d = (48 ≤ d) × (d < 58)
 
 -- Lines --------------------------------------------------------------------------------------------------------------------
 -- a literal's number: the variable's numeral, with a minus in front where it is negated
@@ -52,13 +44,7 @@ abbrev pub text : Table → List ℕ
 text T = concat (lines T)
 
 -- A text call --------------------------------------------------------------------------------------------------------------
--- "as many whole lines as fit": the first k of these lines go into n bytes, and with one more, if there is one, they do not
-pub record AsManyAsFit (n : ℕ) (ls : List (List ℕ)) (k : ℕ) : Type 0 where
-  pub there : k ≤ length ls
-  pub fit : length (concat (take k ls)) ≤ n
-  pub no-more : k < length ls → n < length (concat (take (suc k) ls))
-
--- these are they: line by line, up to the first that does not fit behind those before it
+-- "as many whole lines as fit" into n bytes, of these lines: up to the first that does not fit behind those before it
 abbrev pub fitting : ℕ → List (List ℕ) → List (List ℕ)
 fitting n [] = []
 fitting n (l ∷ ls) = cond (leb (length l) n) (l ∷ fitting (n - length l) ls) []
@@ -67,7 +53,7 @@ fitting n (l ∷ ls) = cond (leb (length l) n) (l ∷ fitting (n - length l) ls)
 abbrev pub linesFrom : Table → (j n : ℕ) → List (List ℕ)
 linesFrom T j n = fitting n (drop j (lines T))
 
--- the bytes that it writes. "It returns the bytes used and the next line"
+-- the bytes that it writes; "it returns the bytes used and the next line"
 abbrev pub written : Table → (j n : ℕ) → List ℕ
 written T j n = concat (linesFrom T j n)
 

@@ -8,8 +8,8 @@ use lib.ListN.{length}
 use Rattle.lists.specs.List.{all, has}
 use Rattle.planning.specs.Table.{Task, step, job, Step, Table, stepOf, jobOf, bodyOf}
 
--- "A step stands alone .. A job has one of its methods and one tree for each name of that body, in order": `split j m ts` is job j
--- with method m and the trees ts
+-- "A step stands alone .. A job has one of its methods and one tree for each name of that body, in order": `alone s` is step s,
+-- `split j m ts` is job j with method m and the trees ts, which are a list of trees
 mutual
   pub data Tree : Type 0 where
     alone : ℕ → Tree
@@ -24,6 +24,7 @@ abbrev pub top : Tree → Task
 top (alone s) = step s
 top (split j m ts) = job j
 
+-- what each of these starts at
 abbrev pub tops : Trees → List Task
 tops end = []
 tops (next t ts) = top t ∷ tops ts
@@ -50,6 +51,7 @@ abbrev mutual
   greatest (next t ts) = max (height t) (greatest ts)
 
 -- "Two trees are the same if both are the same step, or the same job with the same method number and, in order, the same trees below."
+-- "Two methods with the same body make different trees."
 abbrev mutual
   pub SameTree : Tree → Tree → Type 0
   SameTree (alone s) (alone r) = s ≡ r
@@ -86,17 +88,19 @@ initial T f = has (T .start) f
 abbrev pub ready : Step → State → Bool
 ready s st = all st (s .needs)
 
+-- these facts false, or true, and the others as they were
 abbrev pub clear : List ℕ → State → State
 clear fs st f = st f && not (has fs f)
 
 abbrev pub put : List ℕ → State → State
 put fs st f = has fs f || st f
 
--- "It then clears its cleared facts and afterwards sets its set facts, so a fact in both lists is true."
+-- "It then clears its cleared facts and afterwards sets its set facts, so a fact in both lists is true." The state
+-- after the step (its successor state)
 abbrev pub after : Step → State → State
 after s st = put (s .sets) (clear (s .clears) st)
 
--- the facts that these steps leave, done one after the other
+-- the facts that these steps leave, done one after the other (progression)
 abbrev pub run : Table → List ℕ → State → State
 run T [] st = st
 run T (s ∷ ss) st = run T ss (after (stepOf T s) st)

@@ -13,8 +13,8 @@ use Rattle.lists.proofs.Member.{length-filter}
 use Rattle.lists.proofs.Every.{length-concatMap-le}
 use Rattle.lists.proofs.Number.{length-from, number-length}
 use Rattle.planning.specs.Table.{Task, step, job, Table, stepOf, bodyOf}
-use Rattle.planning.specs.Place.{Place, slot, inner, Places, stop, also, methodsOf, rootPlace, nodes, nodesOf}
-use Rattle.planning.specs.Variable.{ownVars, partVars, taskVars, methodVars, childVars, slots, firstFactVar}
+use Rattle.planning.specs.Place.{Place, slot, inner, Places, stop, also, rootPlace, nodes, nodesOf}
+use Rattle.planning.specs.Variable.{ownVars, partVars, taskVars, methodVars, childVars, slots, firstFactVar, methodsAt, tasksOf}
 use Rattle.planning.specs.Clause.{neg, Clause, notBoth, pairs, jobClause, bodyClauses, stepClauses, innerClauses, rule2, rules2, factsThat, drops, effectClauses, frameClauses, rule4, formula}
 use Rattle.planning.specs.Accepted.{Accepted}
 use Rattle.planning.proofs.Satisfy.{pass-body}
@@ -84,12 +84,12 @@ module _ (T : Table) (accepted : Accepted T) where
     rule2-le (slot L) b h = omega (arith, tasks-few (slot L) b h, pairs-le (taskVars (slot L) b) 128 (tasks-few (slot L) b h))
     rule2-le (inner L ps) b h = omega (
       arith,
-      length-append (innerClauses T (taskVars (inner L ps) b) (methodVars T L b) (childVars T ps (b + ownVars T L))) (rules2 T ps (b + ownVars T L)),
-      inner-le T (taskVars (inner L ps) b) (methodVars T L b) (childVars T ps (b + ownVars T L)) (tasks-few (inner L ps) b h)
-          (omega (arith, number-length (b + (length (L .steps) + length (L .jobs))) (methodsOf T (L .jobs)), methods-length T (L .jobs), accepted .limits .methods))
-          (omega (arith, children-length T ps (b + ownVars T L), h .0 .1))
-          (λ c m. omega (arith, children-sized (length (T .steps)) (T .jobs) 8 T ps (b + ownVars T L) (h .1) c m, accepted .limits .steps, accepted .limits .jobs)),
-      rules2-le ps (b + ownVars T L) (h .1),
+      length-append (innerClauses T (taskVars (inner L ps) b) (methodVars T (inner L ps) b) (childVars T ps (b + ownVars T (inner L ps)))) (rules2 T ps (b + ownVars T (inner L ps))),
+      inner-le T (taskVars (inner L ps) b) (methodVars T (inner L ps) b) (childVars T ps (b + ownVars T (inner L ps))) (tasks-few (inner L ps) b h)
+          (omega (arith, number-length (b + length (tasksOf (inner L ps))) (methodsAt T (inner L ps)), methods-length T (L .jobs), accepted .limits .methods))
+          (omega (arith, children-length T ps (b + ownVars T (inner L ps)), h .0 .1))
+          (λ c m. omega (arith, children-sized (length (T .steps)) (T .jobs) 8 T ps (b + ownVars T (inner L ps)) (h .1) c m, accepted .limits .steps, accepted .limits .jobs)),
+      rules2-le ps (b + ownVars T (inner L ps)) (h .1),
     )
 
     rules2-le : (ps : Places) (b : ℕ) → FitEach ps → length (rules2 T ps b) ≤ nodesOf ps * 300000

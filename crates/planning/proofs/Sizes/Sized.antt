@@ -15,7 +15,7 @@ use Rattle.lists.proofs.Number.{length-from, number-length}
 use Rattle.planning.specs.Table.{Task, step, job, Method, Table, noMethod, jobOf, bodyOf}
 use Rattle.planning.specs.Place.{Label, Place, slot, inner, Places, stop, also, methodsOf, longest, oneIfAny, childCount, named, childLabel, rootLabel, rootPlace, nodes, nodesOf, count}
 use Rattle.planning.specs.Variable.{tasksOf, ownVars, partVars, taskVars, childVars, slotVars, slotsVars}
-use Rattle.planning.proofs.Task.{length-tasks}
+use Rattle.planning.proofs.Task.{length-tasks, step-vars}
 use Rattle.planning.proofs.Everywhere.{Everywhere, EverywhereEach, everywhere}
 
 -- at each node at most S steps, J jobs and, where it is inner, C children
@@ -43,9 +43,9 @@ module _ (S J C : ℕ) where
 
     mutual
       pub slot-sized : (p : Place) (b : ℕ) → Sized p → (xs : List (ℕ × ℕ)) → xs ∈ slotVars T p b → length xs ≤ S
-      slot-sized (slot L) b h xs (inl e) = rw e (omega (arith, number-length b (L .steps), h .steps))
+      slot-sized (slot L) b h xs (inl e) = rw (e, step-vars b (L .steps)) (omega (arith, number-length b (L .steps), h .steps))
       slot-sized (slot L) b h xs (inr m) = absurd m
-      slot-sized (inner L ps) b h xs m = slots-sized ps (b + ownVars T L) (h .1) xs m
+      slot-sized (inner L ps) b h xs m = slots-sized ps (b + ownVars T (inner L ps)) (h .1) xs m
 
       slots-sized : (ps : Places) (b : ℕ) → SizedEach ps → (xs : List (ℕ × ℕ)) → xs ∈ slotsVars T ps b → length xs ≤ S
       slots-sized stop b h xs m = absurd m
@@ -65,7 +65,7 @@ module _ (T : Table) where
   mutual
     pub slots-nodes : (p : Place) (b : ℕ) → length (slotVars T p b) ≤ nodes p
     slots-nodes (slot L) b = omega arith
-    slots-nodes (inner L ps) b = omega (arith, slots-nodesOf ps (b + ownVars T L))
+    slots-nodes (inner L ps) b = omega (arith, slots-nodesOf ps (b + ownVars T (inner L ps)))
 
     slots-nodesOf : (ps : Places) (b : ℕ) → length (slotsVars T ps b) ≤ nodesOf ps
     slots-nodesOf stop b = omega arith

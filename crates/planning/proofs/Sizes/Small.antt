@@ -15,9 +15,10 @@ use Rattle.lists.proofs.Every.{every-append, every-map, every-concatMap, every-
 use Rattle.lists.proofs.Number.{upTo-range, number-length}
 use Rattle.planning.specs.Table.{Task, step, job, same, Method, Table, stepOf, jobOf, bodyOf, Sound}
 use Rattle.planning.specs.Tree.{initial}
-use Rattle.planning.specs.Place.{Label, Place, slot, inner, Places, stop, also, methodsOf, rootPlace}
-use Rattle.planning.specs.Variable.{ownVars, partVars, partsVars, taskVars, methodVars, childVars, slots, factVar, firstFactVar, variables}
+use Rattle.planning.specs.Place.{Label, Place, slot, inner, Places, stop, also, rootPlace}
+use Rattle.planning.specs.Variable.{ownVars, partVars, partsVars, taskVars, methodVars, childVars, slots, factVar, firstFactVar, variables, methodsAt, tasksOf}
 use Rattle.planning.specs.Clause.{Lit, pos, neg, Clause, variableOf, allPos, notBoth, pairs, varOf, rule1, jobClause, methodClause, bodyClauses, stepClauses, upClause, innerClauses, rule2, rules2, literal, rule3, factsThat, drops, effectClauses, fallClause, riseClause, frameClauses, rule4, formula}
+use Rattle.planning.specs.Promises.{LiteralsInRange}
 use Rattle.planning.proofs.Range.{task-range, method-range, child-range, slot-range}
 use Rattle.planning.proofs.Satisfy.{pass-body}
 use Rattle.planning.proofs.Sizes.Sized.{Sized, SizedEach, tasks-sized, children-sized, slot-sized, methods-length, root-sized}
@@ -124,20 +125,20 @@ module _ (T : Table) (N W C : ℕ) (wide : Wide T W) where
     omega (arith, children-sized (length (T .steps)) (T .jobs) C T ps b h c k, wide .tasks),
   )
 
-  method-narrow : (L : Label) (b : ℕ) → 1 ≤ b → b + ownVars T L ≤ suc N → Narrow N W (methodVars T L b)
-  method-narrow L b l s = (
-    λ x m. let r = method-range T L b x m in (omega arith, omega arith),
-    omega (arith, number-length (b + (length (L .steps) + length (L .jobs))) (methodsOf T (L .jobs)), methods-length T (L .jobs), wide .methods),
+  method-narrow : (L : Label) (ps : Places) (b : ℕ) → 1 ≤ b → b + ownVars T (inner L ps) ≤ suc N → Narrow N W (methodVars T (inner L ps) b)
+  method-narrow L ps b l s = (
+    λ x m. let r = method-range T (inner L ps) b x m in (omega arith, omega arith),
+    omega (arith, number-length (b + length (tasksOf (inner L ps))) (methodsAt T (inner L ps)), methods-length T (L .jobs), wide .methods),
   )
 
   mutual
     rule2-small : (p : Place) (b : ℕ) → Fit p → 1 ≤ b → b + partVars T p ≤ suc N → Every (Small N W) (rule2 T p b)
     rule2-small (slot L) b h l s = pairs-small N W (taskVars (slot L) b) (omega (arith, wide .slots)) (task-narrow (slot L) b h l s .0)
     rule2-small (inner L ps) b h l s =
-        every-append (Small N W) (innerClauses T (taskVars (inner L ps) b) (methodVars T L b) (childVars T ps (b + ownVars T L))) (rules2 T ps (b + ownVars T L))
-        (inner-small N W T (taskVars (inner L ps) b) (methodVars T L b) (childVars T ps (b + ownVars T L)) (omega (arith, wide .slots))
-        (task-narrow (inner L ps) b h l s) (method-narrow L b l (omega arith)) (child-narrow ps (b + ownVars T L) (h .1) (omega arith) (omega arith)))
-        (rules2-small ps (b + ownVars T L) (h .1) (omega arith) (omega arith))
+        every-append (Small N W) (innerClauses T (taskVars (inner L ps) b) (methodVars T (inner L ps) b) (childVars T ps (b + ownVars T (inner L ps)))) (rules2 T ps (b + ownVars T (inner L ps)))
+        (inner-small N W T (taskVars (inner L ps) b) (methodVars T (inner L ps) b) (childVars T ps (b + ownVars T (inner L ps))) (omega (arith, wide .slots))
+        (task-narrow (inner L ps) b h l s) (method-narrow L ps b l (omega arith)) (child-narrow ps (b + ownVars T (inner L ps)) (h .1) (omega arith) (omega arith)))
+        (rules2-small ps (b + ownVars T (inner L ps)) (h .1) (omega arith) (omega arith))
 
     rules2-small : (ps : Places) (b : ℕ) → FitEach ps → 1 ≤ b → b + partsVars T ps ≤ suc N → Every (Small N W) (rules2 T ps b)
     rules2-small stop b h l s = tt
@@ -235,7 +236,7 @@ body-max (m ∷ ms) =
     let r = body-max ms in
     (omega (arith, r .0), (omega arith, every-imp (λ (k : Method). length (k .body) ≤ bodyMax ms) (λ (k : Method). length (k .body) ≤ bodyMax (m ∷ ms)) (λ k h. omega arith) ms (r .1)))
 
-pub literal-range : (T : Table) → Sound T → Every (Every (λ (l : Lit). (1 ≤ variableOf l) × (variableOf l ≤ variables T))) (formula T)
+pub literal-range : (T : Table) → Sound T → LiteralsInRange T
 literal-range T s =
     let r = body-max (T .methods) in
     let W = 2 + (length (T .steps) + (T .jobs + length (T .methods))) in

@@ -10,7 +10,7 @@ use Rattle.planning.specs.Variable.{factVar, firstFactVar}
 use Rattle.planning.specs.Model.{value, Model, Gives}
 use Rattle.planning.specs.Text.{text}
 use Rattle.planning.specs.Accepted.{Accepted}
-use Rattle.planning.specs.Marked.{Models, shown, deeper, emptyBody, noMethods, serveAndLift, serveAndLiftDeeper, twice, needsOpen, needsOpenAtStart, setsAndClears, ten, shownText, Marked}
+use Rattle.planning.specs.Marked.{Models, shown, deeper, emptyBody, withoutMethods, serveAndLift, serveAndLiftDeeper, twice, needsOpen, needsOpenAtStart, setsAndClears, ten, shownText, Marked}
 use Rattle.planning.proofs.Tables.Try.{tried, of-found, of-tree}
 use Rattle.planning.proofs.Tables.Test.{all-accepted}
 
@@ -27,9 +27,9 @@ empty-models : Models emptyBody 1
 unfolding place childLabel childCount
 empty-models = tried emptyBody 1 refl
 
-none-models : Models noMethods 0
+none-models : Models withoutMethods 0
 unfolding place childLabel childCount
-none-models = tried noMethods 0 refl
+none-models = tried withoutMethods 0 refl
 
 both-models : Models serveAndLift 1
 unfolding place childLabel childCount

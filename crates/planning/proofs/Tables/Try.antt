@@ -11,7 +11,7 @@ use lib.ListN.{length}
 use Rattle.lists.specs.List.{filter, _∈_, Distinct, Every}
 use Rattle.lists.proofs.Bool.{some-inj}
 use Rattle.lists.proofs.Member.{in-left, in-right, in-append, in-filter-out, in-filter-in, distinct-filter, distinct-append, in-map-out, in-map-in, distinct-map}
-use Rattle.lists.proofs.Every.{every-of}
+use Rattle.lists.proofs.Every.{every-of, every-out}
 use Rattle.planning.specs.Table.{Table}
 use Rattle.planning.specs.Tree.{Tree}
 use Rattle.planning.specs.Variable.{variables}
@@ -60,27 +60,27 @@ all-distinct (suc n) =
 abbrev pub found : Table → List (List Bool)
 found T = filter (λ vs. satisfies (value vs) (formula T)) (allLists (variables T))
 
-pub tried : (T : Table) (n : ℕ) → length (found T) ≡ n → Models T n
-tried T n e = record {
-  list = found T;
-  number = e;
-  models = every-of (Model T) (found T) (λ vs m. let k = in-filter-out ok vs (allLists (variables T)) m in record { whole = all-length (variables T) vs (k .0); true-clauses = k .1 });
-  different = distinct-filter ok (allLists (variables T)) (all-distinct (variables T));
-  every = λ vs m. in-filter-in ok vs (allLists (variables T)) (in-all (variables T) vs (m .whole)) (m .true-clauses);
-}
-  where
-    ok : List Bool → Bool
-    ok vs = satisfies (value vs) (formula T)
+module _ (T : Table) where
+  found-model : (vs : List Bool) → vs ∈ found T → Model T vs
+  found-model vs m =
+      let k = in-filter-out (λ us. satisfies (value us) (formula T)) vs (allLists (variables T)) m in
+      record { whole = all-length (variables T) vs (k .0); true-clauses = k .1 }
 
--- what holds of those that were found holds of every model
-pub of-found : (T : Table) (P : List Bool → Type 0) → Every P (found T) → (vs : List Bool) → Model T vs → P vs
-unfolding tried
-of-found T P h vs m = go (found T) h (tried T (length (found T)) refl .every vs m)
-  where
-    go : (us : List (List Bool)) → Every P us → vs ∈ us → P vs
-    go [] k i = absurd i
-    go (u ∷ us) k (inl e) = subst P (sym e) (k .0)
-    go (u ∷ us) k (inr i) = go us (k .1) i
+  model-found : (vs : List Bool) → Model T vs → vs ∈ found T
+  model-found vs m = in-filter-in (λ us. satisfies (value us) (formula T)) vs (allLists (variables T)) (in-all (variables T) vs (m .whole)) (m .true-clauses)
+
+  pub tried : (n : ℕ) → length (found T) ≡ n → Models T n
+  tried n e = record {
+    list = found T;
+    number = e;
+    models = every-of (Model T) (found T) found-model;
+    different = distinct-filter (λ us. satisfies (value us) (formula T)) (allLists (variables T)) (all-distinct (variables T));
+    every = model-found;
+  }
+
+  -- what holds of those that were found holds of every model
+  pub of-found : (P : List Bool → Type 0) → Every P (found T) → (vs : List Bool) → Model T vs → P vs
+  of-found P h vs m = every-out P (found T) h vs (model-found vs m)
 
 -- where the tree that was found is t₀
 pub of-tree : (P : Tree → Type 0) (t₀ t : Tree) → _≡_ {A = Option Tree} (some t₀) (some t) → P t₀ → P t

@@ -1,13 +1,14 @@
 -- Further small tables, one for each rule that the marked tables do not put to the test, with the exact counts of their models; and
--- edges of heights, places and text calls. Each fact is computed.
+-- records, and edges of heights, places and text calls. Each fact is computed.
 use mathlib.Core.Path.{_≡_, refl}
 use mathlib.Core.List.{List, [], _∷_}
 use Prim.Native.Nat.{ℕ}
 use Rattle.planning.specs.Table.{Task, step, job, Method, Table, noStep}
 use Rattle.planning.specs.Tree.{split, end, height}
 use Rattle.planning.specs.Place.{childCount, childLabel, place, rootPlace, nodes}
+use Rattle.planning.specs.Record.{Record, records}
 use Rattle.planning.specs.Text.{bytesUsed, nextLine}
-use Rattle.planning.specs.Marked.{Models, table, by, lift, shown}
+use Rattle.planning.specs.Marked.{Models, table, by, lift, shown, serveAndLift}
 use Rattle.planning.proofs.Tables.Try.{tried}
 
 -- no fact; the steps do nothing. Methods of job 0, the root, and of job 1
@@ -17,6 +18,10 @@ factless jobs methods depth = record { facts = 0; steps = noStep ∷ noStep ∷ 
 abbrev byOne : List Task → Method
 byOne body = record { of = 1; body = body }
 
+abbrev node : (depth parent children : ℕ) → (steps jobs : List ℕ) → Record
+node d u c ss js = record { depth = d; parent = u; children = c; label = record { steps = ss; jobs = js } }
+
+-- Models ---------------------------------------------------------------------------------------------------------------------
 -- 2(a) at a slot: one of two steps, and not both
 abbrev eitherStep : Table
 eitherStep = factless 1 (by (step 0 ∷ []) ∷ by (step 1 ∷ []) ∷ []) 1
@@ -77,6 +82,24 @@ then-models : Models liftThenNeed 2
 unfolding place childLabel childCount
 then-models = tried liftThenNeed 2 refl
 
+-- Records --------------------------------------------------------------------------------------------------------------------
+-- a job at depth K is kept, though it has no variable
+at-depth-records : records serveAndLift ≡ node 0 0 1 [] (0 ∷ []) ∷ node 1 0 0 (0 ∷ []) (0 ∷ []) ∷ []
+unfolding place childLabel childCount
+at-depth-records = refl
+
+-- two children with two each: numbers go down before they go on
+abbrev twoPairs : Table
+twoPairs = factless 2 (by (job 1 ∷ job 1 ∷ []) ∷ byOne (step 0 ∷ step 1 ∷ []) ∷ []) 2
+
+pair-records : records twoPairs ≡ node 0 0 2 [] (0 ∷ [])
+    ∷ node 1 0 2 [] (1 ∷ []) ∷ node 2 1 0 (0 ∷ []) [] ∷ node 2 1 0 (1 ∷ []) []
+    ∷ node 1 0 2 [] (1 ∷ []) ∷ node 2 4 0 (0 ∷ []) [] ∷ node 2 4 0 (1 ∷ []) []
+    ∷ []
+unfolding place childLabel childCount
+pair-records = refl
+
+-- Heights, places, text calls ------------------------------------------------------------------------------------------------
 -- "or 1 where the body is empty"
 empty-height : height (split 0 0 end) ≡ 1
 empty-height = refl

@@ -4,14 +4,15 @@ use mathlib.Core.Path.{_≡_, refl, ap, _∙_, sym}
 use mathlib.Core.List.{List, [], _∷_, _++_}
 use Prim.Native.Nat.{ℕ, suc, _+_, _-_, _≤_, _<_}
 use native.Mathlib.Omega.{arith}
-use lib.ListN.{length, getD, take, drop, length-map, length-append, length-drop, List·getD-map, take-append-drop}
+use lib.ListN.{length, getD, take, drop, length-map, length-append, List·getD-map, take-append-drop}
 use lib.Seq.{drop-drop}
 use Rattle.lists.specs.List.{concat}
 use Rattle.lists.proofs.Bool.{leb-cases}
 use Rattle.lists.proofs.Every.{concat-append}
 use Rattle.planning.specs.Table.{Table}
 use Rattle.planning.specs.Clause.{formula}
-use Rattle.planning.specs.Text.{clauseLine, lines, AsManyAsFit, fitting, linesFrom, written, bytesUsed, nextLine}
+use Rattle.planning.specs.Text.{clauseLine, lines, fitting, linesFrom, written}
+use Rattle.planning.specs.Promises.{AsManyAsFit, Call}
 
 -- "line 0 is the header, line j the jth clause": clauses count from 0 here
 pub lines-count : (T : Table) → length (lines T) ≡ 1 + length (formula T)
@@ -21,7 +22,7 @@ pub line-at : (T : Table) (j : ℕ) → getD (lines T) (suc j) (clauseLine []) �
 line-at T j = List·getD-map clauseLine (formula T) j []
 
 -- whole lines from the first on
-pub fitting-first : (n : ℕ) (ls : List (List ℕ)) → fitting n ls ≡ take (length (fitting n ls)) ls
+fitting-first : (n : ℕ) (ls : List (List ℕ)) → fitting n ls ≡ take (length (fitting n ls)) ls
 fitting-first n [] = refl
 fitting-first n (l ∷ ls) = leb-cases (fitting n (l ∷ ls) ≡ take (length (fitting n (l ∷ ls))) (l ∷ ls)) (length l) n
     (λ h e. rw e (ap (λ (r : List (List ℕ)). l ∷ r) (fitting-first (n - length l) ls)))
@@ -38,7 +39,7 @@ one-fits n l ls k h a = record {
   no-more = λ q. omega (arith, length-append l (concat (take (suc k) ls)), a .no-more (omega arith));
 }
 
-pub fitting-most : (n : ℕ) (ls : List (List ℕ)) → AsManyAsFit n ls (length (fitting n ls))
+fitting-most : (n : ℕ) (ls : List (List ℕ)) → AsManyAsFit n ls (length (fitting n ls))
 fitting-most n [] = record { there = omega arith; fit = omega arith; no-more = λ q. absurd (omega arith) }
 fitting-most n (l ∷ ls) = leb-cases (AsManyAsFit n (l ∷ ls) (length (fitting n (l ∷ ls)))) (length l) n
     (λ h e. rw e (one-fits n l ls (length (fitting (n - length l) ls)) h (fitting-most (n - length l) ls)))
@@ -51,22 +52,11 @@ fitting-rest n ls =
     ap concat (sym (take-append-drop k ls))
     ∙ (concat-append (take k ls) (drop k ls) ∙ ap (λ (xs : List (List ℕ)). concat xs ++ concat (drop k ls)) (sym (fitting-first n ls)))
 
--- A text call begun at line j, with a buffer of n bytes ------------------------------------------------------------------------
-module _ (T : Table) (j n : ℕ) where
-  pub writes-lines : written T j n ≡ concat (take (length (linesFrom T j n)) (drop j (lines T)))
-  writes-lines = ap concat (fitting-first n (drop j (lines T)))
-
-  pub writes-most : AsManyAsFit n (drop j (lines T)) (length (linesFrom T j n))
-  writes-most = fitting-most n (drop j (lines T))
-
-  pub used-fits : bytesUsed T j n ≤ n
-  used-fits = rw writes-lines (writes-most .fit)
-
-  pub next-line : j ≤ length (lines T) → nextLine T j n ≤ length (lines T)
-  next-line h = omega (arith, writes-most .there, length-drop j (lines T))
-
-  -- the next call goes on where this one ended: nothing is lost or written twice between them
-  pub goes-on : concat (drop j (lines T)) ≡ written T j n ++ concat (drop (nextLine T j n) (lines T))
-  goes-on =
-      fitting-rest n (drop j (lines T))
-      ∙ ap (λ (ls : List (List ℕ)). written T j n ++ concat ls) (drop-drop (length (linesFrom T j n)) j (lines T))
+pub call : (T : Table) (j n : ℕ) → Call T j n
+call T j n = record {
+  count = length (linesFrom T j n);
+  fitting = fitting-most n (drop j (lines T));
+  writes = ap concat (fitting-first n (drop j (lines T)));
+  next = refl;
+  goes-on = fitting-rest n (drop j (lines T)) ∙ ap (λ (ls : List (List ℕ)). written T j n ++ concat ls) (drop-drop (length (linesFrom T j n)) j (lines T));
+}

@@ -14,13 +14,14 @@ use Rattle.lists.proofs.Every.{every-out}
 use Rattle.planning.specs.Table.{Table}
 use Rattle.planning.specs.Variable.{variables}
 use Rattle.planning.specs.Clause.{Lit, pos, neg, Clause, variableOf, formula}
-use Rattle.planning.specs.Text.{decimal, litText, clauseLine, headerLine, lines, nextLine, AsManyAsFit, linesFrom}
+use Rattle.planning.specs.Text.{decimal, litText, clauseLine, headerLine, lines, nextLine}
 use Rattle.planning.specs.Accepted.{Accepted}
+use Rattle.planning.specs.Promises.{AsManyAsFit, Lines}
 use Rattle.planning.proofs.Sizes.Sized.{root-sized}
 use Rattle.planning.proofs.Sizes.Small.{LitIn, Small, Wide, formula-small}
 use Rattle.planning.proofs.Sizes.Few.{formula-few}
 use Rattle.planning.proofs.Text.Numeral.{decimal-length}
-use Rattle.planning.proofs.Text.Call.{writes-most}
+use Rattle.planning.proofs.Text.Call.{call}
 
 lit-length : (l : Lit) → variableOf l < 10 ^ 4 → length (litText l) ≤ 5
 lit-length (pos n) h = let k = decimal-length n 3 h in omega arith
@@ -71,15 +72,19 @@ module _ (T : Table) (accepted : Accepted T) where
         s .short,
       )
 
-  pub line-length : (l : List ℕ) → l ∈ lines T → length l ≤ 1024
+  line-length : (l : List ℕ) → l ∈ lines T → length l ≤ 1024
   line-length l (inl e) = rw e (omega (arith, header-length (variables T) (length (formula T)) (accepted .few-variables) (formula-few T accepted)))
   line-length l (inr m) =
       let k = in-map-out clauseLine l (formula T) m in
       subst (λ (z : List ℕ). length z ≤ 1024) (sym (k .2)) (clause-length (k .0) (k .1))
 
-  -- so a call with such a buffer gets on, as long as a line is left
-  pub gets-on : (j n : ℕ) → 1024 ≤ n → j < length (lines T) → j < nextLine T j n
+  -- the first line of a call fits, so a call gets on
+  gets-on : (j n : ℕ) → 1024 ≤ n → j < length (lines T) → j < nextLine T j n
   gets-on j n h l =
       let first : getD (drop j (lines T)) 0 [] ∈ lines T = rw (getD-drop, add-zero) (in-getD j (lines T) [] l) in
-      let k = some-fits n (drop j (lines T)) (length (linesFrom T j n)) (omega (arith, length-drop j (lines T))) (omega (arith, line-length (getD (drop j (lines T)) 0 []) first)) (writes-most T j n) in
-      omega arith
+      let c = call T j n in
+      let k = some-fits n (drop j (lines T)) (c .count) (omega (arith, length-drop j (lines T))) (omega (arith, line-length (getD (drop j (lines T)) 0 []) first)) (c .fitting) in
+      omega (arith, c .next)
+
+  pub lines-of : Lines T
+  lines-of = record { short = line-length; gets-on = gets-on }

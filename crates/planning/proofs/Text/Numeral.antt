@@ -8,7 +8,8 @@ use native.Mathlib.Omega.{arith}
 use lib.ListN.{length, getD}
 use Rattle.lists.specs.List.{Every}
 use Rattle.lists.proofs.Bool.{leb-cases}
-use Rattle.planning.specs.Text.{digits, decimal, readDecimal, Digit}
+use Rattle.planning.specs.Text.{digits, decimal}
+use Rattle.planning.specs.Promises.{readDecimal, Digit, Numeral}
 
 smaller : (n : ℕ) → 10 ≤ n → n / 10 < n
 smaller n h = div-lt-iff-lt-mul {k = 10} {x = n} {y = n} (omega arith) .1 (omega arith)
@@ -23,7 +24,7 @@ read-digits (suc k) n rest l = leb-cases (readDecimal 0 (digits (suc k) n rest) 
     whole : (n : ℕ) → n / 10 * 10 + ((48 + n % 10) - 48) ≡ n
     whole n = omega (arith, div-add-mod' n 10)
 
-pub read-decimal : (n : ℕ) → readDecimal 0 (decimal n) ≡ n
+read-decimal : (n : ℕ) → readDecimal 0 (decimal n) ≡ n
 read-decimal n = read-digits (suc n) n [] (omega arith)
 
 -- Every byte is a digit, and the first is 0 only where the number is ----------------------------------------------------------
@@ -33,7 +34,7 @@ digits-are (suc k) n rest r = leb-cases (Every Digit (digits (suc k) n rest)) (s
     (λ h e. rw e ((omega arith, omega arith), r))
     (λ h e. rw e (digits-are k (n / 10) ((48 + n % 10) ∷ rest) ((omega arith, omega (arith, mod-lt n {m = 10} (omega arith))), r)))
 
-pub decimal-digits : (n : ℕ) → Every Digit (decimal n)
+decimal-digits : (n : ℕ) → Every Digit (decimal n)
 decimal-digits n = digits-are (suc n) n [] tt
 
 first-digit : (k n : ℕ) (rest : List ℕ) → n < k → 1 ≤ n → 49 ≤ getD (digits k n rest) 0 0
@@ -42,8 +43,11 @@ first-digit (suc k) n rest l p = leb-cases (49 ≤ getD (digits (suc k) n rest) 
     (λ h e. rw e (omega arith))
     (λ h e. rw e (first-digit k (n / 10) ((48 + n % 10) ∷ rest) (omega (arith, smaller n (omega arith))) (omega (arith, div-add-mod' n 10, mod-lt n {m = 10} (omega arith)))))
 
-pub no-leading-zero : (n : ℕ) → 1 ≤ n → 49 ≤ getD (decimal n) 0 0
+no-leading-zero : (n : ℕ) → 1 ≤ n → 49 ≤ getD (decimal n) 0 0
 no-leading-zero n p = first-digit (suc n) n [] (omega arith) p
+
+pub numeral : (n : ℕ) → Numeral n
+numeral n = record { reads-back = read-decimal n; digits = decimal-digits n; no-leading-zero = no-leading-zero n }
 
 -- At most j + 1 digits below 10 to the power j + 1 ------------------------------------------------------------------------------
 digits-length : (k n j : ℕ) (rest : List ℕ) → n < 10 ^ suc j → length (digits k n rest) ≤ suc j + length rest

@@ -62,23 +62,23 @@ module _ (T : Table) (v : Valuation) where
 
   module _ (L : Label) (ps : Places) (b : ℕ) (sd : Regular T (inner L ps)) where
     part-c : (o : Option Tree) → Holds T v (inner L ps) b o → Fits T (inner L ps) o → (n : ℕ) (t : Task) → (n, t) ∈ taskVars (inner L ps) b
-        → satisfies v (jobClause T (methodVars T L b) (n, t)) ≡ true
+        → satisfies v (jobClause T (methodVars T (inner L ps) b) (n, t)) ≡ true
     part-c o i f n (step s) m = refl
     part-c o i f n (job j) m =
-        and-in (clauseTrue v (neg n ∷ allPos (filter mine (methodVars T L b)))) true (imp-in v n (allPos (filter mine (methodVars T L b))) (λ p. go o i f (i .0 (n, job j) m .0 p))) refl
+        and-in (clauseTrue v (neg n ∷ allPos (filter mine (methodVars T (inner L ps) b)))) true (imp-in v n (allPos (filter mine (methodVars T (inner L ps) b))) (λ p. go o i f (i .0 (n, job j) m .0 p))) refl
       where
         mine : ℕ × ℕ → Bool
         mine = λ x. eqb (jobOf T (x .1)) j
 
-        go : (o : Option Tree) → Holds T v (inner L ps) b o → Fits T (inner L ps) o → shownTask o ≡ some (job j) → clauseTrue v (allPos (filter mine (methodVars T L b))) ≡ true
+        go : (o : Option Tree) → Holds T v (inner L ps) b o → Fits T (inner L ps) o → shownTask o ≡ some (job j) → clauseTrue v (allPos (filter mine (methodVars T (inner L ps) b))) ≡ true
         go none i f e = none≢some e
         go (some (alone s)) i f e = absurd (let z : _≡_ {A = ℕ} 0 1 = cc in omega arith)
         go (some (split k m ts)) i f e =
-            let r = true-of (b + (length (L .steps) + length (L .jobs))) (methodsOf T (L .jobs)) m (i .1) (f .1 .0) in
+            let r = true-of (b + length (tasksOf (inner L ps))) (methodsOf T (L .jobs)) m (i .1) (f .1 .0) in
             let q : jobOf T m ≡ j = f .1 .1 ∙ cc in
-            allPos-in v (filter mine (methodVars T L b)) (r .0, m) (in-filter-in mine (r .0, m) (methodVars T L b) (r .1) (rw q (eqb-same j))) (r .2)
+            allPos-in v (filter mine (methodVars T (inner L ps) b)) (r .0, m) (in-filter-in mine (r .0, m) (methodVars T (inner L ps) b) (r .1) (rw q (eqb-same j))) (r .2)
 
-    part-d : (o : Option Tree) → Holds T v (inner L ps) b o → Fits T (inner L ps) o → (x : ℕ × ℕ) → x ∈ methodVars T L b
+    part-d : (o : Option Tree) → Holds T v (inner L ps) b o → Fits T (inner L ps) o → (x : ℕ × ℕ) → x ∈ methodVars T (inner L ps) b
         → clauseTrue v (methodClause T (taskVars (inner L ps) b) x) ≡ true
     part-d o i f x k = imp-in v (x .0) (varOf (job (jobOf T (x .1))) (taskVars (inner L ps) b)) (λ p. go o i f (i .1 x k .0 p))
       where
@@ -90,46 +90,46 @@ module _ (T : Table) (v : Valuation) where
             let q : jobOf T (x .1) ≡ j = ap (jobOf T) (sym (some-inj e)) ∙ f .1 .1 in
             rw q (varOf-in v (job j) (taskVars (inner L ps) b) (r .0) (r .1) (r .2))
 
-    part-e : (o : Option Tree) → Holds T v (inner L ps) b o → Fits T (inner L ps) o → (x : ℕ × ℕ) → x ∈ methodVars T L b
-        → satisfies v (bodyClauses (x .0) (bodyOf T (x .1)) (childVars T ps (b + ownVars T L))) ≡ true
+    part-e : (o : Option Tree) → Holds T v (inner L ps) b o → Fits T (inner L ps) o → (x : ℕ × ℕ) → x ∈ methodVars T (inner L ps) b
+        → satisfies v (bodyClauses (x .0) (bodyOf T (x .1)) (childVars T ps (b + ownVars T (inner L ps)))) ≡ true
     part-e o i f x k = test (bool-cases (v (x .0)))
       where
-        go : (o : Option Tree) → Holds T v (inner L ps) b o → Fits T (inner L ps) o → shownMethod o ≡ some (x .1) → satisfies v (bodyClauses (x .0) (bodyOf T (x .1)) (childVars T ps (b + ownVars T L))) ≡ true
+        go : (o : Option Tree) → Holds T v (inner L ps) b o → Fits T (inner L ps) o → shownMethod o ≡ some (x .1) → satisfies v (bodyClauses (x .0) (bodyOf T (x .1)) (childVars T ps (b + ownVars T (inner L ps)))) ≡ true
         go none i f e = none≢some e
         go (some (alone s)) i f e = none≢some e
         go (some (split j m ts)) i f e =
             let q : bodyOf T (x .1) ≡ tops ts = ap (bodyOf T) (sym (some-inj e)) ∙ sym (f .1 .2) in
-            rw q (body-true ps (b + ownVars T L) (x .0) ts (i .2) (f .2))
+            rw q (body-true ps (b + ownVars T (inner L ps)) (x .0) ts (i .2) (f .2))
 
-        test : (v (x .0) ≡ true) ⊎ (v (x .0) ≡ false) → satisfies v (bodyClauses (x .0) (bodyOf T (x .1)) (childVars T ps (b + ownVars T L))) ≡ true
+        test : (v (x .0) ≡ true) ⊎ (v (x .0) ≡ false) → satisfies v (bodyClauses (x .0) (bodyOf T (x .1)) (childVars T ps (b + ownVars T (inner L ps)))) ≡ true
         test (inl q) = go o i f (i .1 x k .0 q)
-        test (inr q) = body-false (x .0) (bodyOf T (x .1)) (childVars T ps (b + ownVars T L)) q
+        test (inr q) = body-false (x .0) (bodyOf T (x .1)) (childVars T ps (b + ownVars T (inner L ps))) q
 
     part-f : (o : Option Tree) → Holds T v (inner L ps) b o → Fits T (inner L ps) o → (n : ℕ) (t : Task) → (n, t) ∈ taskVars (inner L ps) b
-        → satisfies v (stepClauses (childVars T ps (b + ownVars T L)) (n, t)) ≡ true
+        → satisfies v (stepClauses (childVars T ps (b + ownVars T (inner L ps))) (n, t)) ≡ true
     part-f o i f n (job j) k = refl
     part-f o i f n (step s) k =
-        subst (λ (l : List Clause). satisfies v l ≡ true) (sym (pass-body n s (childVars T ps (b + ownVars T L)))) (test (bool-cases (v n)))
+        subst (λ (l : List Clause). satisfies v l ≡ true) (sym (pass-body n s (childVars T ps (b + ownVars T (inner L ps))))) (test (bool-cases (v n)))
       where
-        go : (o : Option Tree) → Holds T v (inner L ps) b o → Fits T (inner L ps) o → shownTask o ≡ some (step s) → satisfies v (bodyClauses n (step s ∷ []) (childVars T ps (b + ownVars T L))) ≡ true
+        go : (o : Option Tree) → Holds T v (inner L ps) b o → Fits T (inner L ps) o → shownTask o ≡ some (step s) → satisfies v (bodyClauses n (step s ∷ []) (childVars T ps (b + ownVars T (inner L ps)))) ≡ true
         go none i f e = none≢some e
         go (some (split j m ts)) i f e = absurd (let z : _≡_ {A = ℕ} 0 1 = cc in omega arith)
-        go (some (alone r)) i f e = let q : s ≡ r = cc in rw q (body-true ps (b + ownVars T L) n (next (alone r) end) (i .2) (f .2))
+        go (some (alone r)) i f e = let q : s ≡ r = cc in rw q (body-true ps (b + ownVars T (inner L ps)) n (next (alone r) end) (i .2) (f .2))
 
-        test : (v n ≡ true) ⊎ (v n ≡ false) → satisfies v (bodyClauses n (step s ∷ []) (childVars T ps (b + ownVars T L))) ≡ true
+        test : (v n ≡ true) ⊎ (v n ≡ false) → satisfies v (bodyClauses n (step s ∷ []) (childVars T ps (b + ownVars T (inner L ps)))) ≡ true
         test (inl q) = go o i f (i .0 (n, step s) k .0 q)
-        test (inr q) = body-false n (step s ∷ []) (childVars T ps (b + ownVars T L)) q
+        test (inr q) = body-false n (step s ∷ []) (childVars T ps (b + ownVars T (inner L ps))) q
 
-    part-g : (o : Option Tree) → Holds T v (inner L ps) b o → Fits T (inner L ps) o → (c : List (ℕ × Task)) → c ∈ childVars T ps (b + ownVars T L) → (x : ℕ × Task) → x ∈ c
+    part-g : (o : Option Tree) → Holds T v (inner L ps) b o → Fits T (inner L ps) o → (c : List (ℕ × Task)) → c ∈ childVars T ps (b + ownVars T (inner L ps)) → (x : ℕ × Task) → x ∈ c
         → clauseTrue v (upClause (taskVars (inner L ps) b) x) ≡ true
-    part-g none i f c mc x mx = up-in v (taskVars (inner L ps) b) x (λ p. clash p (nothing-held ps (b + ownVars T L) (i .2) c mc x mx))
+    part-g none i f c mc x mx = up-in v (taskVars (inner L ps) b) x (λ p. clash p (nothing-held ps (b + ownVars T (inner L ps)) (i .2) c mc x mx))
     part-g (some t) i f c mc x mx =
         up-in v (taskVars (inner L ps) b) x (λ p. let r = true-of b (tasksOf (inner L ps)) (top t) (i .0) (f .0) in ((r .0, top t), r .1, r .2))
 
-    pub node-holds : (o : Option Tree) → Holds T v (inner L ps) b o → Fits T (inner L ps) o → Node T v (taskVars (inner L ps) b) (methodVars T L b) (childVars T ps (b + ownVars T L))
+    pub node-holds : (o : Option Tree) → Holds T v (inner L ps) b o → Fits T (inner L ps) o → Node T v (taskVars (inner L ps) b) (methodVars T (inner L ps) b) (childVars T ps (b + ownVars T (inner L ps)))
     node-holds o i f = record {
       a = pairs-in v b (tasksOf (inner L ps)) (shownTask o) (sd .0 .tasks) (i .0);
-      b = pairs-in v (b + (length (L .steps) + length (L .jobs))) (methodsOf T (L .jobs)) (shownMethod o) (sd .0 .methods) (i .1);
+      b = pairs-in v (b + length (tasksOf (inner L ps))) (methodsOf T (L .jobs)) (shownMethod o) (sd .0 .methods) (i .1);
       c = λ x m. part-c o i f (x .0) (x .1) m;
       d = part-d o i f;
       e = part-e o i f;
@@ -141,9 +141,9 @@ module _ (T : Table) (v : Valuation) where
     pub complete : (p : Place) (b : ℕ) (o : Option Tree) → Regular T p → Holds T v p b o → Fits T p o → satisfies v (rule2 T p b) ≡ true
     complete (slot L) b o sd i f = pairs-in v b (tasksOf (slot L)) (shownTask o) sd i
     complete (inner L ps) b o sd i f =
-        sat-in v (innerClauses T (taskVars (inner L ps) b) (methodVars T L b) (childVars T ps (b + ownVars T L))) (rules2 T ps (b + ownVars T L))
-        (node-in T v (taskVars (inner L ps) b) (methodVars T L b) (childVars T ps (b + ownVars T L)) (node-holds L ps b sd o i f))
-        (completes ps (b + ownVars T L) (below o) (sd .1) (i .2) (f .2))
+        sat-in v (innerClauses T (taskVars (inner L ps) b) (methodVars T (inner L ps) b) (childVars T ps (b + ownVars T (inner L ps)))) (rules2 T ps (b + ownVars T (inner L ps)))
+        (node-in T v (taskVars (inner L ps) b) (methodVars T (inner L ps) b) (childVars T ps (b + ownVars T (inner L ps))) (node-holds L ps b sd o i f))
+        (completes ps (b + ownVars T (inner L ps)) (below o) (sd .1) (i .2) (f .2))
 
     pub completes : (ps : Places) (b : ℕ) (ts : Trees) → RegularEach T ps → HoldsEach T v ps b ts → FitsEach T ps ts → satisfies v (rules2 T ps b) ≡ true
     completes stop b ts sd i f = refl

@@ -53,22 +53,23 @@ module _ {A : Type 0} (o : Option A) (q : A → Bool) (hq : (a : A) → (q a ≡
       rw (← (append-snoc pre (q x) (map q xs ++ post)))
       (encode-hot xs (suc b) (pre ++ (q x ∷ [])) post (length-append pre (q x ∷ []) ∙ omega arith) y m)
 
-regroup₁ : (p a b c q : List Bool) → p ++ (a ++ ((b ++ c) ++ q)) ≡ p ++ ((a ++ (b ++ c)) ++ q)
-regroup₁ p a b c q = simp append-assoc
+-- the values of a part, with what stands before and after it, seen from each of its pieces
+tasks-first : (p a b c q : List Bool) → p ++ (a ++ ((b ++ c) ++ q)) ≡ p ++ ((a ++ (b ++ c)) ++ q)
+tasks-first p a b c q = simp append-assoc
 
-regroup₂ : (p a b c q : List Bool) → (p ++ a) ++ (b ++ (c ++ q)) ≡ p ++ ((a ++ (b ++ c)) ++ q)
-regroup₂ p a b c q = simp append-assoc
+methods-next : (p a b c q : List Bool) → (p ++ a) ++ (b ++ (c ++ q)) ≡ p ++ ((a ++ (b ++ c)) ++ q)
+methods-next p a b c q = simp append-assoc
 
-regroup₃ : (p a b c q : List Bool) → ((p ++ a) ++ b) ++ (c ++ q) ≡ p ++ ((a ++ (b ++ c)) ++ q)
-regroup₃ p a b c q = simp append-assoc
+children-last : (p a b c q : List Bool) → ((p ++ a) ++ b) ++ (c ++ q) ≡ p ++ ((a ++ (b ++ c)) ++ q)
+children-last p a b c q = simp append-assoc
 
-regroup₄ : (p a c q : List Bool) → (p ++ a) ++ (c ++ q) ≡ p ++ ((a ++ c) ++ q)
-regroup₄ p a c q = simp append-assoc
+later-children : (p a c q : List Bool) → (p ++ a) ++ (c ++ q) ≡ p ++ ((a ++ c) ++ q)
+later-children p a c q = simp append-assoc
 
 module _ (T : Table) where
   mutual
     pub length-encode : (p : Place) (o : Option Tree) → length (encode T p o) ≡ partVars T p
-    length-encode (slot L) o = length-map (tasksOf (slot L)) (is (shownTask o))
+    length-encode (slot L) o = omega (arith, length-map (tasksOf (slot L)) (is (shownTask o)))
     length-encode (inner L ps) o = simp (length-append, length-map) (omega (arith, length-encodes ps (below o)))
 
     pub length-encodes : (ps : Places) (ts : Trees) → length (encodes T ps ts) ≡ partsVars T ps
@@ -82,15 +83,15 @@ module _ (T : Table) where
         let A = map (is (shownTask o)) (tasksOf (inner L ps)) in
         let B = map (isMethod (shownMethod o)) (methodsOf T (L .jobs)) in
         let C = encodes T ps (below o) in
-        let a : length A ≡ length (L .steps) + length (L .jobs) = simp (length-append, length-map) in
+        let a : length A ≡ length (tasksOf (inner L ps)) = length-map (tasksOf (inner L ps)) (is (shownTask o)) in
         let m : length B ≡ length (methodsOf T (L .jobs)) = length-map (methodsOf T (L .jobs)) (isMethod (shownMethod o)) in (
-          subst (λ (l : List Bool). Hot (vals l) (taskVars (inner L ps) b) (shownTask o)) (regroup₁ pre A B C post)
+          subst (λ (l : List Bool). Hot (vals l) (taskVars (inner L ps) b) (shownTask o)) (tasks-first pre A B C post)
               (encode-hot (shownTask o) (is (shownTask o)) (is-some (shownTask o)) (tasksOf (inner L ps)) b pre ((B ++ C) ++ post) e),
-          subst (λ (l : List Bool). Hot (vals l) (methodVars T L b) (shownMethod o)) (regroup₂ pre A B C post)
-              (encode-hot (shownMethod o) (isMethod (shownMethod o)) (isMethod-some (shownMethod o)) (methodsOf T (L .jobs)) (b + (length (L .steps) + length (L .jobs))) (pre ++ A) (C ++ post)
+          subst (λ (l : List Bool). Hot (vals l) (methodVars T (inner L ps) b) (shownMethod o)) (methods-next pre A B C post)
+              (encode-hot (shownMethod o) (isMethod (shownMethod o)) (isMethod-some (shownMethod o)) (methodsOf T (L .jobs)) (b + length (tasksOf (inner L ps))) (pre ++ A) (C ++ post)
               (length-append pre A ∙ omega arith)),
-          subst (λ (l : List Bool). HoldsEach T (vals l) ps (b + ownVars T L) (below o)) (regroup₃ pre A B C post)
-              (encodes-hold ps (b + ownVars T L) (below o) ((pre ++ A) ++ B) post (simp length-append (omega arith))),
+          subst (λ (l : List Bool). HoldsEach T (vals l) ps (b + ownVars T (inner L ps)) (below o)) (children-last pre A B C post)
+              (encodes-hold ps (b + ownVars T (inner L ps)) (below o) ((pre ++ A) ++ B) post (omega (arith, length-append (pre ++ A) B, length-append pre A))),
         )
 
     pub encodes-hold : (ps : Places) (b : ℕ) (ts : Trees) (pre post : List Bool) → length pre ≡ b → HoldsEach T (vals (pre ++ (encodes T ps ts ++ post))) ps b ts
@@ -99,6 +100,6 @@ module _ (T : Table) where
         let A = encode T p (firstTree ts) in
         let C = encodes T ps (laterTrees ts) in (
           subst (λ (l : List Bool). Holds T (vals l) p b (firstTree ts)) (ap (λ (l : List Bool). pre ++ l) (sym (append-assoc A C post))) (encode-holds p b (firstTree ts) pre (C ++ post) e),
-          subst (λ (l : List Bool). HoldsEach T (vals l) ps (b + partVars T p) (laterTrees ts)) (regroup₄ pre A C post)
+          subst (λ (l : List Bool). HoldsEach T (vals l) ps (b + partVars T p) (laterTrees ts)) (later-children pre A C post)
               (encodes-hold ps (b + partVars T p) (laterTrees ts) (pre ++ A) post (length-append pre A ∙ omega (arith, length-encode p (firstTree ts)))),
         )

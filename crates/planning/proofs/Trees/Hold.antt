@@ -78,7 +78,7 @@ laterTrees (next t ts) = ts
 abbrev mutual
   pub Holds : Table → Valuation → Place → ℕ → Option Tree → Type 0
   Holds T v (slot L) b o = Hot v (taskVars (slot L) b) (shownTask o)
-  Holds T v (inner L ps) b o = Hot v (taskVars (inner L ps) b) (shownTask o) × Hot v (methodVars T L b) (shownMethod o) × HoldsEach T v ps (b + ownVars T L) (below o)
+  Holds T v (inner L ps) b o = Hot v (taskVars (inner L ps) b) (shownTask o) × Hot v (methodVars T (inner L ps) b) (shownMethod o) × HoldsEach T v ps (b + ownVars T (inner L ps)) (below o)
 
   pub HoldsEach : Table → Valuation → Places → ℕ → Trees → Type 0
   HoldsEach T v stop b ts = Unit {0}

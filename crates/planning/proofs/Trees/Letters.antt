@@ -37,19 +37,19 @@ module _ (T : Table) (v : Valuation) (tasks : List (ℕ × Task)) (methods : Lis
 
   pub node-out : satisfies v (innerClauses T tasks methods children) ≡ true → Node T v tasks methods children
   node-out s =
-      let s2 = sat-r v (pairs tasks) (pairs methods ++ (C ++ (D ++ (E ++ (F ++ G))))) s in
-      let s3 = sat-r v (pairs methods) (C ++ (D ++ (E ++ (F ++ G)))) s2 in
-      let s4 = sat-r v C (D ++ (E ++ (F ++ G))) s3 in
-      let s5 = sat-r v D (E ++ (F ++ G)) s4 in
-      let s6 = sat-r v E (F ++ G) s5 in
+      let sb = sat-r v (pairs tasks) (pairs methods ++ (C ++ (D ++ (E ++ (F ++ G))))) s in
+      let sc = sat-r v (pairs methods) (C ++ (D ++ (E ++ (F ++ G)))) sb in
+      let sd = sat-r v C (D ++ (E ++ (F ++ G))) sc in
+      let se = sat-r v D (E ++ (F ++ G)) sd in
+      let sf = sat-r v E (F ++ G) se in
       record {
         a = sat-l v (pairs tasks) (pairs methods ++ (C ++ (D ++ (E ++ (F ++ G))))) s;
-        b = sat-l v (pairs methods) (C ++ (D ++ (E ++ (F ++ G)))) s2;
-        c = concatMap-out v (jobClause T methods) tasks (sat-l v C (D ++ (E ++ (F ++ G))) s3);
-        d = map-out v (methodClause T tasks) methods (sat-l v D (E ++ (F ++ G)) s4);
-        e = concatMap-out v (λ m. bodyClauses (m .0) (bodyOf T (m .1)) children) methods (sat-l v E (F ++ G) s5);
-        f = concatMap-out v (stepClauses children) tasks (sat-l v F G s6);
-        g = λ k m. map-out v (upClause tasks) k (concatMap-out v (λ c. map (upClause tasks) c) children (sat-r v F G s6) k m);
+        b = sat-l v (pairs methods) (C ++ (D ++ (E ++ (F ++ G)))) sb;
+        c = concatMap-out v (jobClause T methods) tasks (sat-l v C (D ++ (E ++ (F ++ G))) sc);
+        d = map-out v (methodClause T tasks) methods (sat-l v D (E ++ (F ++ G)) sd);
+        e = concatMap-out v (λ m. bodyClauses (m .0) (bodyOf T (m .1)) children) methods (sat-l v E (F ++ G) se);
+        f = concatMap-out v (stepClauses children) tasks (sat-l v F G sf);
+        g = λ k m. map-out v (upClause tasks) k (concatMap-out v (λ c. map (upClause tasks) c) children (sat-r v F G sf) k m);
       }
 
   pub node-in : Node T v tasks methods children → satisfies v (innerClauses T tasks methods children) ≡ true

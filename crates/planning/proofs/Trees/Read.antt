@@ -16,7 +16,7 @@ use Rattle.planning.specs.Tree.{Tree, alone, split, Trees, end, next, to
 use Rattle.planning.specs.Place.{Label, Place, slot, inner, Places, stop, also, methodsOf}
 use Rattle.planning.specs.Variable.{tasksOf, ownVars, partVars, methodVars, slotVars, slotsVars}
 use Rattle.planning.specs.Model.{Valuation, chosen, splitWith, nextWith, treeAt, read, reads}
-use Rattle.planning.proofs.Task.{no-job, step-in}
+use Rattle.planning.proofs.Task.{no-job, step-in, step-vars}
 use Rattle.planning.proofs.Satisfy.{trueOnes, listOf, slotSteps}
 use Rattle.planning.proofs.Trees.Hold.{Hot, Held, shownTask, shownMethod, below, firstTree, laterTrees, Holds, HoldsEach, Made, Fits, FitsEach, Regular, RegularEach}
 use Rattle.planning.proofs.Trees.Chosen.{ones-hot, chosen-hot}
@@ -69,8 +69,8 @@ slot-list ss (some (split j m ts)) h = absurd (no-job j ss h)
 
 module _ (T : Table) (v : Valuation) where
   read-node : (L : Label) (ps : Places) (b : ℕ) (o : Option Tree) → Holds T v (inner L ps) b o → Fits T (inner L ps) o
-      → ((ts : Trees) → HoldsEach T v ps (b + ownVars T L) ts → FitsEach T ps ts → reads T v ps (b + ownVars T L) (tops ts) ≡ some ts)
-      → treeAt T (shownTask o) (shownMethod o) (λ ts. reads T v ps (b + ownVars T L) ts) ≡ o
+      → ((ts : Trees) → HoldsEach T v ps (b + ownVars T (inner L ps)) ts → FitsEach T ps ts → reads T v ps (b + ownVars T (inner L ps)) (tops ts) ≡ some ts)
+      → treeAt T (shownTask o) (shownMethod o) (λ ts. reads T v ps (b + ownVars T (inner L ps)) ts) ≡ o
   read-node L ps b none i f k = refl
   read-node L ps b (some (alone s)) i f k = refl
   read-node L ps b (some (split j m ts)) i f k = rw (← (f .1 .2)) (ap (splitWith j m) (k ts (i .2) (f .2)))
@@ -89,9 +89,9 @@ module _ (T : Table) (v : Valuation) where
     pub read-holds : (p : Place) (b : ℕ) (o : Option Tree) → Holds T v p b o → Fits T p o → read T v p b ≡ o
     read-holds (slot L) b o i f = ap (λ (z : Option Task). treeAt T z none (λ ts. none)) (chosen-hot v b (tasksOf (slot L)) (shownTask o) i f) ∙ read-slot L o f
     read-holds (inner L ps) b o i f =
-        ap (λ (z : Option Task). treeAt T z (chosen v (methodVars T L b)) (λ ts. reads T v ps (b + ownVars T L) ts)) (chosen-hot v b (tasksOf (inner L ps)) (shownTask o) (i .0) (f .0))
-        ∙ (ap (λ (z : Option ℕ). treeAt T (shownTask o) z (λ ts. reads T v ps (b + ownVars T L) ts)) (chosen-hot v (b + (length (L .steps) + length (L .jobs))) (methodsOf T (L .jobs)) (shownMethod o) (i .1) (held-method L o (f .1)))
-        ∙ read-node L ps b o i f (λ ts is fs. reads-hold ps (b + ownVars T L) ts is fs))
+        ap (λ (z : Option Task). treeAt T z (chosen v (methodVars T (inner L ps) b)) (λ ts. reads T v ps (b + ownVars T (inner L ps)) ts)) (chosen-hot v b (tasksOf (inner L ps)) (shownTask o) (i .0) (f .0))
+        ∙ (ap (λ (z : Option ℕ). treeAt T (shownTask o) z (λ ts. reads T v ps (b + ownVars T (inner L ps)) ts)) (chosen-hot v (b + length (tasksOf (inner L ps))) (methodsOf T (L .jobs)) (shownMethod o) (i .1) (held-method L o (f .1)))
+        ∙ read-node L ps b o i f (λ ts is fs. reads-hold ps (b + ownVars T (inner L ps)) ts is fs))
 
     pub reads-hold : (ps : Places) (b : ℕ) (ts : Trees) → HoldsEach T v ps b ts → FitsEach T ps ts → reads T v ps b (tops ts) ≡ some ts
     reads-hold stop b end i f = refl
@@ -104,9 +104,10 @@ module _ (T : Table) (v : Valuation) where
   mutual
     pub slot-steps : (p : Place) (b : ℕ) (o : Option Tree) → Regular T p → Holds T v p b o → Fits T p o → slotSteps v (slotVars T p b) ≡ shownSteps o
     slot-steps (slot L) b o sd i f =
-        ap (λ (l : List ℕ). l ++ []) (ones-hot v b (L .steps) (shownStep o) (distinct-steps (L .steps) sd) (hot-steps v b (L .steps) o i) (held-step (L .steps) o f))
-        ∙ slot-list (L .steps) o f
-    slot-steps (inner L ps) b o sd i f = slots-steps ps (b + ownVars T L) (below o) (sd .1) (i .2) (f .2) ∙ steps-below o
+        ap (λ (xs : List (ℕ × ℕ)). trueOnes v xs ++ []) (step-vars b (L .steps))
+        ∙ (ap (λ (l : List ℕ). l ++ []) (ones-hot v b (L .steps) (shownStep o) (distinct-steps (L .steps) sd) (hot-steps v b (L .steps) o i) (held-step (L .steps) o f))
+        ∙ slot-list (L .steps) o f)
+    slot-steps (inner L ps) b o sd i f = slots-steps ps (b + ownVars T (inner L ps)) (below o) (sd .1) (i .2) (f .2) ∙ steps-below o
 
     pub slots-steps : (ps : Places) (b : ℕ) (ts : Trees) → RegularEach T ps → HoldsEach T v ps b ts → FitsEach T ps ts → slotSteps v (slotsVars T ps b) ≡ treesSteps ts
     slots-steps stop b ts sd i f = ap treesSteps (sym f)
@@ -130,9 +131,9 @@ module _ (T : Table) (v : Valuation) where
 
   mutual
     pub slots-one : (p : Place) (b : ℕ) (o : Option Tree) → Regular T p → Holds T v p b o → Fits T p o → (xs : List (ℕ × ℕ)) → xs ∈ slotVars T p b → OneAt xs
-    slots-one (slot L) b o sd i f xs (inl e) = subst OneAt (sym e) (slot-one L b o sd i f)
+    slots-one (slot L) b o sd i f xs (inl e) = subst OneAt (sym (e ∙ step-vars b (L .steps))) (slot-one L b o sd i f)
     slots-one (slot L) b o sd i f xs (inr m) = absurd m
-    slots-one (inner L ps) b o sd i f xs m = slots-ones ps (b + ownVars T L) (below o) (sd .1) (i .2) (f .2) xs m
+    slots-one (inner L ps) b o sd i f xs m = slots-ones ps (b + ownVars T (inner L ps)) (below o) (sd .1) (i .2) (f .2) xs m
 
     pub slots-ones : (ps : Places) (b : ℕ) (ts : Trees) → RegularEach T ps → HoldsEach T v ps b ts → FitsEach T ps ts → (xs : List (ℕ × ℕ)) → xs ∈ slotsVars T ps b → OneAt xs
     slots-ones stop b ts sd i f xs m = absurd m

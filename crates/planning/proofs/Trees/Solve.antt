@@ -56,9 +56,9 @@ module _ (T : Table) (v : Valuation) where
   Solutions ps b os = (ts : Trees) × (tops ts ≡ os) × HoldsEach T v ps b ts × FitsEach T ps ts
 
   module _ (L : Label) (ps : Places) (b : ℕ) (sd : Regular T (inner L ps))
-      (n : Node T v (taskVars (inner L ps) b) (methodVars T L b) (childVars T ps (b + ownVars T L)))
-      (k : (os : List Task) → Given T v ps (b + ownVars T L) os → Solutions ps (b + ownVars T L) os) where
-    no-method : (o : Option Task) → Hot v (taskVars (inner L ps) b) o → ((j : ℕ) → o ≡ some (job j) → ⊥) → Hot v (methodVars T L b) none
+      (n : Node T v (taskVars (inner L ps) b) (methodVars T (inner L ps) b) (childVars T ps (b + ownVars T (inner L ps))))
+      (k : (os : List Task) → Given T v ps (b + ownVars T (inner L ps)) os → Solutions ps (b + ownVars T (inner L ps)) os) where
+    no-method : (o : Option Task) → Hot v (taskVars (inner L ps) b) o → ((j : ℕ) → o ≡ some (job j) → ⊥) → Hot v (methodVars T (inner L ps) b) none
     no-method o h u x m = (
       λ p. let r = varOf-out v (job (jobOf T (x .1))) (taskVars (inner L ps) b)
           (imp-out v (x .0) (varOf (job (jobOf T (x .1))) (taskVars (inner L ps) b)) (n .d x m) p) in
@@ -66,8 +66,8 @@ module _ (T : Table) (v : Valuation) where
       λ e. none≢some e,
     )
 
-    nothing-below : Pick v (taskVars (inner L ps) b) none → Given T v ps (b + ownVars T L) []
-    nothing-below p = given-nothing ps (b + ownVars T L) (λ c mc x mx. false-of (v (x .0))
+    nothing-below : Pick v (taskVars (inner L ps) b) none → Given T v ps (b + ownVars T (inner L ps)) []
+    nothing-below p = given-nothing ps (b + ownVars T (inner L ps)) (λ c mc x mx. false-of (v (x .0))
         (λ q. let r = up-out v (taskVars (inner L ps) b) x (n .g c mc x mx) q in clash (r .2) (p (r .0) (r .1))))
 
     inner-none : Pick v (taskVars (inner L ps) b) none → Solution (inner L ps) b none
@@ -76,24 +76,24 @@ module _ (T : Table) (v : Valuation) where
         hot : Hot v (taskVars (inner L ps) b) none
         hot = hot-of-pick v b (tasksOf (inner L ps)) none (sd .0 .tasks) (n .a) p
 
-        go : (ts : Trees) → tops ts ≡ [] → HoldsEach T v ps (b + ownVars T L) ts → FitsEach T ps ts → Solution (inner L ps) b none
+        go : (ts : Trees) → tops ts ≡ [] → HoldsEach T v ps (b + ownVars T (inner L ps)) ts → FitsEach T ps ts → Solution (inner L ps) b none
         go end e i f = (none, refl, (hot, no-method none hot (λ j q. none≢some q), i), (tt, tt, f))
         go (next t ts) e i f = absurd (let z : _≡_ {A = ℕ} 0 1 = cc in omega arith)
 
     inner-step : (s : ℕ) → Pick v (taskVars (inner L ps) b) (some (step s)) → Solution (inner L ps) b (some (step s))
     inner-step s p = let r = k (step s ∷ []) given in go (r .0) (r .1) (r .2) (r .3)
       where
-        given : Given T v ps (b + ownVars T L) (step s ∷ [])
-        given = body-given ps (b + ownVars T L) (p .0) (step s ∷ []) (p .2)
-            (subst (λ (l : List Clause). satisfies v l ≡ true) (pass-body (p .0) s (childVars T ps (b + ownVars T L))) (n .f (p .0, step s) (p .1))) (sd .0 .steps s (step-among (L .steps) (L .jobs) s (number-thing b (tasksOf (inner L ps)) (p .0, step s) (p .1))))
+        given : Given T v ps (b + ownVars T (inner L ps)) (step s ∷ [])
+        given = body-given ps (b + ownVars T (inner L ps)) (p .0) (step s ∷ []) (p .2)
+            (subst (λ (l : List Clause). satisfies v l ≡ true) (pass-body (p .0) s (childVars T ps (b + ownVars T (inner L ps)))) (n .f (p .0, step s) (p .1))) (sd .0 .steps s (step-among (L .steps) (L .jobs) s (number-thing b (tasksOf (inner L ps)) (p .0, step s) (p .1))))
 
         hot : Hot v (taskVars (inner L ps) b) (some (step s))
         hot = hot-of-pick v b (tasksOf (inner L ps)) (some (step s)) (sd .0 .tasks) (n .a) p
 
-        hotm : Hot v (methodVars T L b) none
+        hotm : Hot v (methodVars T (inner L ps) b) none
         hotm = no-method (some (step s)) hot (λ j q. let z : _≡_ {A = ℕ} 0 1 = cc in omega arith)
 
-        go : (ts : Trees) → tops ts ≡ step s ∷ [] → HoldsEach T v ps (b + ownVars T L) ts → FitsEach T ps ts → Solution (inner L ps) b (some (step s))
+        go : (ts : Trees) → tops ts ≡ step s ∷ [] → HoldsEach T v ps (b + ownVars T (inner L ps)) ts → FitsEach T ps ts → Solution (inner L ps) b (some (step s))
         go end e i f = absurd (let z : _≡_ {A = ℕ} 0 1 = cc in omega arith)
         go (next (split j m us) ts) e i f = absurd (let z : _≡_ {A = ℕ} 0 1 = cc in omega arith)
         go (next (alone r) (next t ts)) e i f = absurd (let z : _≡_ {A = ℕ} 0 1 = cc in omega arith)
@@ -107,24 +107,24 @@ module _ (T : Table) (v : Valuation) where
         mine : ℕ × ℕ → Bool
         mine = λ m. eqb (jobOf T (m .1)) j
 
-        x : (x : ℕ × ℕ) × (x ∈ filter mine (methodVars T L b)) × (v (x .0) ≡ true)
-        x = allPos-out v (filter mine (methodVars T L b)) (imp-out v (p .0) (allPos (filter mine (methodVars T L b)))
-            (and-l (clauseTrue v (neg (p .0) ∷ allPos (filter mine (methodVars T L b)))) true (n .c (p .0, job j) (p .1))) (p .2))
+        x : (x : ℕ × ℕ) × (x ∈ filter mine (methodVars T (inner L ps) b)) × (v (x .0) ≡ true)
+        x = allPos-out v (filter mine (methodVars T (inner L ps) b)) (imp-out v (p .0) (allPos (filter mine (methodVars T (inner L ps) b)))
+            (and-l (clauseTrue v (neg (p .0) ∷ allPos (filter mine (methodVars T (inner L ps) b)))) true (n .c (p .0, job j) (p .1))) (p .2))
 
-        q : (x .0 ∈ methodVars T L b) × (mine (x .0) ≡ true)
-        q = in-filter-out mine (x .0) (methodVars T L b) (x .1)
+        q : (x .0 ∈ methodVars T (inner L ps) b) × (mine (x .0) ≡ true)
+        q = in-filter-out mine (x .0) (methodVars T (inner L ps) b) (x .1)
 
         hot : Hot v (taskVars (inner L ps) b) (some (job j))
         hot = hot-of-pick v b (tasksOf (inner L ps)) (some (job j)) (sd .0 .tasks) (n .a) p
 
-        go : (y : ℕ × ℕ) → y ∈ methodVars T L b → jobOf T (y .1) ≡ j → v (y .0) ≡ true → Solution (inner L ps) b (some (job j))
+        go : (y : ℕ × ℕ) → y ∈ methodVars T (inner L ps) b → jobOf T (y .1) ≡ j → v (y .0) ≡ true → Solution (inner L ps) b (some (job j))
         go y my e t =
             let m = y .1 in
-            let mm : m ∈ methodsOf T (L .jobs) = number-thing (b + (length (L .steps) + length (L .jobs))) (methodsOf T (L .jobs)) y my in
-            let r = k (bodyOf T m) (body-given ps (b + ownVars T L) (y .0) (bodyOf T m) t (n .e y my) (sd .0 .bodies m mm)) in (
+            let mm : m ∈ methodsOf T (L .jobs) = number-thing (b + length (tasksOf (inner L ps))) (methodsOf T (L .jobs)) y my in
+            let r = k (bodyOf T m) (body-given ps (b + ownVars T (inner L ps)) (y .0) (bodyOf T m) t (n .e y my) (sd .0 .bodies m mm)) in (
               some (split j m (r .0)),
               refl,
-              (hot, hot-of-pick v (b + (length (L .steps) + length (L .jobs))) (methodsOf T (L .jobs)) (some m) (sd .0 .methods) (n .b) (y .0, my, t), r .2),
+              (hot, hot-of-pick v (b + length (tasksOf (inner L ps))) (methodsOf T (L .jobs)) (some m) (sd .0 .methods) (n .b) (y .0, my, t), r .2),
               (number-thing b (tasksOf (inner L ps)) (p .0, job j) (p .1), (mm, e, r .1), r .3),
             )
 
@@ -157,10 +157,10 @@ module _ (T : Table) (v : Valuation) where
     pub solve : (p : Place) (b : ℕ) (o : Option Task) → Regular T p → satisfies v (rule2 T p b) ≡ true → Pick v (taskVars p b) o → Solution p b o
     solve (slot L) b o sd s g = slot-solution L b o sd s g
     solve (inner L ps) b o sd s g =
-        let nc = innerClauses T (taskVars (inner L ps) b) (methodVars T L b) (childVars T ps (b + ownVars T L)) in
+        let nc = innerClauses T (taskVars (inner L ps) b) (methodVars T (inner L ps) b) (childVars T ps (b + ownVars T (inner L ps))) in
         inner-solution L ps b sd
-        (node-out T v (taskVars (inner L ps) b) (methodVars T L b) (childVars T ps (b + ownVars T L)) (sat-l v nc (rules2 T ps (b + ownVars T L)) s))
-        (λ os h. solves ps (b + ownVars T L) os (sd .1) (sat-r v nc (rules2 T ps (b + ownVars T L)) s) h) o g
+        (node-out T v (taskVars (inner L ps) b) (methodVars T (inner L ps) b) (childVars T ps (b + ownVars T (inner L ps))) (sat-l v nc (rules2 T ps (b + ownVars T (inner L ps))) s))
+        (λ os h. solves ps (b + ownVars T (inner L ps)) os (sd .1) (sat-r v nc (rules2 T ps (b + ownVars T (inner L ps))) s) h) o g
 
     pub solves : (ps : Places) (b : ℕ) (os : List Task) → RegularEach T ps → satisfies v (rules2 T ps b) ≡ true → Given T v ps b os → Solutions ps b os
     solves stop b [] sd s g = (end, refl, tt, refl)
