@@ -2,8 +2,9 @@
 --
 -- How to read it. `f x y` is f of x and y; `λ x. e` is the function that gives e for x; `(n, t)` is a pair, `x .0` its first part and
 -- `x .1` its second; `r .f` is field f of a record. A list is `a ∷ b ∷ []`; `++` joins lists; `getD l i d` is member i of l, counted from 0,
--- or d past the end, and `getElem? l i` is `some` member or `none`. `suc n` is n + 1, and `n - m` is 0 where m is greater. `cond b x y` is
--- x if b is true, else y; `elim e [ .. | .. ]` goes by cases. Several lines `f .. = ..` are the cases of one definition.
+-- or d past the end, and `getElem? l i` is `some` member or `none`. `suc n` is n + 1, and `n - m` is 0 where m is greater. Tests give
+-- true or false: `eqb`, `leb`, `ltb` for equal, at most, less; `&&`, `||` and `not` for and, or, not. `cond b x y` is x if b is true, else y;
+-- `elim e [ .. | .. ]` goes by cases. Several lines `f .. = ..` are the cases of one definition.
 -- A statement is a type: `≡` is equality, `×` is "and", `(t : Tree) × P t` is "there is a tree t with P t", `→` is "if .. then" and
 -- "for every", `↔` is "exactly when", `⊎` is "or", `⊥` is never so, `Unit` always. A record whose fields are statements says all of them.
 -- `pub`, `abbrev`, `unfoldable`, `mutual` and `{0}` tell the checker how to treat a definition and mean nothing here.
