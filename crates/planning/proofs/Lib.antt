@@ -1,6 +1,6 @@
 -- The proofs, from the ground up.
--- the tables computed: the ten marked ones, and one for each rule that these leave out
-pub mod Tables
+-- small tables computed: the ten marked ones, and one for each rule that these leave out
+pub mod Computed
 -- tasks, trees, nodes, records, the variables of a part, and what it takes to satisfy a clause
 pub mod Task
 pub mod Tree

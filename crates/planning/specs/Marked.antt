@@ -1,4 +1,4 @@
--- The ten marked tables of document 01, and what it says of each. The statement alone; proofs/Tables/Marked.antt proves it.
+-- The ten marked tables of document 01, and what it says of each. The statement alone; proofs/Computed/Marked.antt proves it.
 -- Assumes nothing.
 use mathlib.Core.Path.{_≡_}
 use mathlib.Core.Bool.{Bool, true}

@@ -11,8 +11,8 @@ use Rattle.planning.specs.Model.{value, Model, Gives}
 use Rattle.planning.specs.Text.{text}
 use Rattle.planning.specs.Accepted.{Accepted}
 use Rattle.planning.specs.Marked.{Models, shown, deeper, emptyBody, withoutMethods, serveAndLift, serveAndLiftDeeper, twice, needsOpen, needsOpenAtStart, setsAndClears, ten, shownText, Marked}
-use Rattle.planning.proofs.Tables.Try.{tried, of-found, of-tree}
-use Rattle.planning.proofs.Tables.Test.{all-accepted}
+use Rattle.planning.proofs.Computed.Try.{tried, of-found, of-tree}
+use Rattle.planning.proofs.Computed.Test.{all-accepted}
 
 -- the exact counts of models, each apart from the others, so that a false one is told by its name
 shown-models : Models shown 1

@@ -54,10 +54,10 @@ richFormula =
     ∷ (p 27 ∷ n 31 ∷ []) ∷ (n 28 ∷ p 32 ∷ []) ∷ (p 28 ∷ n 32 ∷ p 17 ∷ []) ∷ (n 29 ∷ p 33 ∷ p 17 ∷ []) ∷ (p 29 ∷ n 33 ∷ [])
     ∷ []
 
-rich-formula : formula rich ≡ richFormula
+pub rich-formula : formula rich ≡ richFormula
 unfolding place childLabel childCount
 rich-formula = refl
 
-rich-variables : variables rich ≡ 33
+pub rich-variables : variables rich ≡ 33
 unfolding place childLabel childCount
 rich-variables = refl

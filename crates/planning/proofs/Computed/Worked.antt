@@ -9,7 +9,7 @@ use Rattle.planning.specs.Place.{childCount, childLabel, place, rootPlac
 use Rattle.planning.specs.Record.{Record, records}
 use Rattle.planning.specs.Text.{bytesUsed, nextLine}
 use Rattle.planning.specs.Marked.{Models, table, by, lift, shown, serveAndLift}
-use Rattle.planning.proofs.Tables.Try.{tried}
+use Rattle.planning.proofs.Computed.Try.{tried}
 
 -- no fact; the steps do nothing. Methods of job 0, the root, and of job 1
 abbrev factless : ℕ → List Method → ℕ → Table
@@ -26,7 +26,7 @@ node d u c ss js = record { depth = d; parent = u; children = c; label = record 
 abbrev eitherStep : Table
 eitherStep = factless 1 (by (step 0 ∷ []) ∷ by (step 1 ∷ []) ∷ []) 1
 
-either-models : Models eitherStep 2
+pub either-models : Models eitherStep 2
 unfolding place childLabel childCount
 either-models = tried eitherStep 2 refl
 
@@ -34,7 +34,7 @@ either-models = tried eitherStep 2 refl
 abbrev emptyOrStep : Table
 emptyOrStep = factless 1 (by [] ∷ by (step 0 ∷ []) ∷ []) 1
 
-empty-or-models : Models emptyOrStep 2
+pub empty-or-models : Models emptyOrStep 2
 unfolding place childLabel childCount
 empty-or-models = tried emptyOrStep 2 refl
 
@@ -42,7 +42,7 @@ empty-or-models = tried emptyOrStep 2 refl
 abbrev stepBesideTwo : Table
 stepBesideTwo = factless 2 (by (step 0 ∷ []) ∷ by (job 1 ∷ []) ∷ byOne (step 0 ∷ step 0 ∷ []) ∷ []) 2
 
-beside-models : Models stepBesideTwo 2
+pub beside-models : Models stepBesideTwo 2
 unfolding place childLabel childCount
 beside-models = tried stepBesideTwo 2 refl
 
@@ -50,7 +50,7 @@ beside-models = tried stepBesideTwo 2 refl
 abbrev emptyOrJob : Table
 emptyOrJob = factless 2 (by [] ∷ by (job 1 ∷ []) ∷ byOne (step 0 ∷ []) ∷ []) 2
 
-below-models : Models emptyOrJob 2
+pub below-models : Models emptyOrJob 2
 unfolding place childLabel childCount
 below-models = tried emptyOrJob 2 refl
 
@@ -58,11 +58,11 @@ below-models = tried emptyOrJob 2 refl
 abbrev idle : List ℕ → Table
 idle start = table noStep (by (step 0 ∷ []) ∷ []) start 1
 
-stays-true-models : Models (idle (0 ∷ [])) 1
+pub stays-true-models : Models (idle (0 ∷ [])) 1
 unfolding place childLabel childCount
 stays-true-models = tried (idle (0 ∷ [])) 1 refl
 
-stays-false-models : Models (idle []) 1
+pub stays-false-models : Models (idle []) 1
 unfolding place childLabel childCount
 stays-false-models = tried (idle []) 1 refl
 
@@ -78,13 +78,13 @@ liftThenNeed = record {
   depth = 1;
 }
 
-then-models : Models liftThenNeed 2
+pub then-models : Models liftThenNeed 2
 unfolding place childLabel childCount
 then-models = tried liftThenNeed 2 refl
 
 -- Records --------------------------------------------------------------------------------------------------------------------
 -- a job at depth K is kept, though it has no variable
-at-depth-records : records serveAndLift ≡ node 0 0 1 [] (0 ∷ []) ∷ node 1 0 0 (0 ∷ []) (0 ∷ []) ∷ []
+pub at-depth-records : records serveAndLift ≡ node 0 0 1 [] (0 ∷ []) ∷ node 1 0 0 (0 ∷ []) (0 ∷ []) ∷ []
 unfolding place childLabel childCount
 at-depth-records = refl
 
@@ -92,7 +92,7 @@ at-depth-records = refl
 abbrev twoPairs : Table
 twoPairs = factless 2 (by (job 1 ∷ job 1 ∷ []) ∷ byOne (step 0 ∷ step 1 ∷ []) ∷ []) 2
 
-pair-records : records twoPairs ≡ node 0 0 2 [] (0 ∷ [])
+pub pair-records : records twoPairs ≡ node 0 0 2 [] (0 ∷ [])
     ∷ node 1 0 2 [] (1 ∷ []) ∷ node 2 1 0 (0 ∷ []) [] ∷ node 2 1 0 (1 ∷ []) []
     ∷ node 1 0 2 [] (1 ∷ []) ∷ node 2 4 0 (0 ∷ []) [] ∷ node 2 4 0 (1 ∷ []) []
     ∷ []
@@ -101,35 +101,35 @@ pair-records = refl
 
 -- Heights, places, text calls ------------------------------------------------------------------------------------------------
 -- "or 1 where the body is empty"
-empty-height : height (split 0 0 end) ≡ 1
+pub empty-height : height (split 0 0 end) ≡ 1
 empty-height = refl
 
 -- "One method `serve,serve,serve`: depth 5 has 364 nodes, depth 6 has 1,093"
 abbrev threeServes : ℕ → Table
 threeServes depth = table lift (by (job 0 ∷ job 0 ∷ job 0 ∷ []) ∷ []) [] depth
 
-three-nodes : nodes (rootPlace (threeServes 5)) ≡ 364
+pub three-nodes : nodes (rootPlace (threeServes 5)) ≡ 364
 unfolding place childLabel childCount
 three-nodes = refl
 
-three-nodes-deeper : nodes (rootPlace (threeServes 6)) ≡ 1093
+pub three-nodes-deeper : nodes (rootPlace (threeServes 6)) ≡ 1093
 unfolding place childLabel childCount
 three-nodes-deeper = refl
 
 -- the header of the table shown has 10 bytes, and the first clause 4: a buffer takes a line that just fits, and none that does not
-just-fits : nextLine shown 0 14 ≡ 2
+pub just-fits : nextLine shown 0 14 ≡ 2
 unfolding place childLabel childCount
 just-fits = refl
 
-one-short : nextLine shown 0 13 ≡ 1
+pub one-short : nextLine shown 0 13 ≡ 1
 unfolding place childLabel childCount
 one-short = refl
 
 -- the last line, and past it
-last-line : bytesUsed shown 9 1024 ≡ 9
+pub last-line : bytesUsed shown 9 1024 ≡ 9
 unfolding place childLabel childCount
 last-line = refl
 
-past-the-end : nextLine shown 9 1024 ≡ 10
+pub past-the-end : nextLine shown 9 1024 ≡ 10
 unfolding place childLabel childCount
 past-the-end = refl
