@@ -1,5 +1,5 @@
 -- One table that has clauses of nearly every kind, with its whole formula: here the order of the clauses, and of the literals in each, is
--- held. The expected clauses are those of an independent reading of document 01. Each fact is computed.
+-- held. The expected clauses are those of a test vector, which was not made from these definitions. Each fact is computed.
 use mathlib.Core.Path.{_≡_, refl}
 use mathlib.Core.List.{List, [], _∷_}
 use Rattle.planning.specs.Table.{step, job, Table}
