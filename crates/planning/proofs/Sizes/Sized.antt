@@ -18,17 +18,18 @@ use Rattle.planning.specs.Variable.{tasksOf, ownVars, partVars, taskVars
 use Rattle.planning.proofs.Task.{length-tasks, step-vars}
 use Rattle.planning.proofs.Everywhere.{Everywhere, EverywhereEach, everywhere}
 
--- at each node at most S steps, J jobs and, where it is inner, C children
-module _ (S J C : ℕ) where
-  pub record LabelSized (L : Label) : Type 0 where
-    pub steps : length (L .steps) ≤ S
-    pub jobs : length (L .jobs) ≤ J
+-- at a node at most S steps and J jobs
+pub record LabelSized (S J : ℕ) (L : Label) : Type 0 where
+  pub steps : length (L .steps) ≤ S
+  pub jobs : length (L .jobs) ≤ J
 
+-- at each node so many and, where it is inner, at most C children
+module _ (S J C : ℕ) where
   abbrev pub Sized : Place → Type 0
-  Sized = Everywhere LabelSized (λ L c. LabelSized L × (c ≤ C))
+  Sized = Everywhere (LabelSized S J) (λ L c. LabelSized S J L × (c ≤ C))
 
   abbrev pub SizedEach : Places → Type 0
-  SizedEach = EverywhereEach LabelSized (λ L c. LabelSized L × (c ≤ C))
+  SizedEach = EverywhereEach (LabelSized S J) (λ L c. LabelSized S J L × (c ≤ C))
 
   -- so much for the task variables of a node, of its children, of a slot
   pub tasks-sized : (p : Place) (b : ℕ) → Sized p → length (taskVars p b) ≤ S + J
@@ -88,7 +89,7 @@ module _ (T : Table) where
     unfolding childCount
     children-short L = omega (arith, any-one (L .steps), longest-short (methodsOf T (L .jobs)))
 
-    child-sized : (L : Label) (i : ℕ) → LabelSized (length (T .steps)) (T .jobs) C (childLabel T L i)
+    child-sized : (L : Label) (i : ℕ) → LabelSized (length (T .steps)) (T .jobs) (childLabel T L i)
     unfolding childLabel
     child-sized L i = record {
       steps = omega (arith, length-filter (λ s. named T L i (step s) || (eqb i 0 && has (L .steps) s)) (upTo (length (T .steps))), length-from 0 (length (T .steps)));
@@ -97,5 +98,5 @@ module _ (T : Table) where
 
     pub root-sized : 1 ≤ T .jobs → Sized (length (T .steps)) (T .jobs) C (rootPlace T)
     root-sized h =
-        everywhere (LabelSized (length (T .steps)) (T .jobs) C) (λ L c. LabelSized (length (T .steps)) (T .jobs) C L × (c ≤ C)) T (LabelSized (length (T .steps)) (T .jobs) C)
+        everywhere (LabelSized (length (T .steps)) (T .jobs)) (λ L c. LabelSized (length (T .steps)) (T .jobs) L × (c ≤ C)) T (LabelSized (length (T .steps)) (T .jobs))
         child-sized (λ L l. l) (λ L l. (l, children-short L)) (T .depth) (rootLabel T) (record { steps = omega arith; jobs = h })

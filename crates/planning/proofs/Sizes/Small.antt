@@ -23,69 +23,70 @@ use Rattle.planning.proofs.Range.{task-range, method-range, child-range
 use Rattle.planning.proofs.Satisfy.{pass-body}
 use Rattle.planning.proofs.Sizes.Sized.{Sized, SizedEach, tasks-sized, children-sized, slot-sized, methods-length, root-sized}
 
+-- one of N variables
+abbrev pub In : ℕ → ℕ → Type 0
+In N n = (1 ≤ n) × (n ≤ N)
+
+abbrev pub LitIn : ℕ → Lit → Type 0
+LitIn N l = In N (variableOf l)
+
+abbrev VarsIn : {A : Type 0} → ℕ → List (ℕ × A) → Type 0
+VarsIn {A} N xs = (x : ℕ × A) → x ∈ xs → In N (x .0)
+
 -- N variables, and at most W literals ------------------------------------------------------------------------------------------
 module _ (N W : ℕ) where
-  abbrev pub In : ℕ → Type 0
-  In n = (1 ≤ n) × (n ≤ N)
-
-  abbrev pub LitIn : Lit → Type 0
-  LitIn l = In (variableOf l)
-
   pub record Small (c : Clause) : Type 0 where
     pub short : length c ≤ W
-    pub inside : Every LitIn c
-
-  abbrev VarsIn : {A : Type 0} → List (ℕ × A) → Type 0
-  VarsIn {A} xs = (x : ℕ × A) → x ∈ xs → In (x .0)
+    pub inside : Every (LitIn N) c
 
   module _ {A : Type 0} where
-    pos-in : (xs : List (ℕ × A)) → VarsIn xs → Every LitIn (allPos xs)
-    pos-in xs h = every-map LitIn (λ x. pos (x .0)) xs h
+    pos-in : (xs : List (ℕ × A)) → VarsIn N xs → Every (LitIn N) (allPos xs)
+    pos-in xs h = every-map (LitIn N) (λ x. pos (x .0)) xs h
 
     pos-length : (xs : List (ℕ × A)) → length (allPos xs) ≡ length xs
     pos-length xs = length-map xs (λ x. pos (x .0))
 
-    kept-in : (p : ℕ × A → Bool) (xs : List (ℕ × A)) → VarsIn xs → Every LitIn (allPos (filter p xs))
+    kept-in : (p : ℕ × A → Bool) (xs : List (ℕ × A)) → VarsIn N xs → Every (LitIn N) (allPos (filter p xs))
     kept-in p xs h = pos-in (filter p xs) (λ x m. h x (in-filter-out p x xs m .0))
 
     kept-length : (p : ℕ × A → Bool) (xs : List (ℕ × A)) → length (allPos (filter p xs)) ≤ length xs
     kept-length p xs = omega (arith, pos-length (filter p xs), length-filter p xs)
 
-    both-small : (n : ℕ) (xs : List (ℕ × A)) → 2 ≤ W → In n → VarsIn xs → Every Small (notBoth n xs)
+    both-small : (n : ℕ) (xs : List (ℕ × A)) → 2 ≤ W → In N n → VarsIn N xs → Every Small (notBoth n xs)
     both-small n xs w i h = every-map Small (λ x. neg n ∷ neg (x .0) ∷ []) xs (λ x m. record { short = omega arith; inside = (i, (h x m, tt)) })
 
-    pairs-small : (xs : List (ℕ × A)) → 2 ≤ W → VarsIn xs → Every Small (pairs xs)
+    pairs-small : (xs : List (ℕ × A)) → 2 ≤ W → VarsIn N xs → Every Small (pairs xs)
     pairs-small [] w h = tt
     pairs-small (x ∷ xs) w h =
         every-append Small (notBoth (x .0) xs) (pairs xs) (both-small (x .0) xs w (h x (inl refl)) (λ y m. h y (inr m))) (pairs-small xs w (λ y m. h y (inr m)))
 
     -- a literal, then some of these variables
-    behind-small : (l : Lit) (p : ℕ × A → Bool) (xs : List (ℕ × A)) → LitIn l → VarsIn xs → suc (length xs) ≤ W → Small (l ∷ allPos (filter p xs))
+    behind-small : (l : Lit) (p : ℕ × A → Bool) (xs : List (ℕ × A)) → LitIn N l → VarsIn N xs → suc (length xs) ≤ W → Small (l ∷ allPos (filter p xs))
     behind-small l p xs i h w = record { short = omega (arith, kept-length p xs); inside = (i, kept-in p xs h) }
 
   -- Rule 2 at an inner node ----------------------------------------------------------------------------------------------------
   abbrev Narrow : {A : Type 0} → List (ℕ × A) → Type 0
-  Narrow xs = VarsIn xs × (suc (length xs) ≤ W)
+  Narrow xs = VarsIn N xs × (suc (length xs) ≤ W)
 
-  job-small : (T : Table) (methods : List (ℕ × ℕ)) (n : ℕ) (t : Task) → In n → Narrow methods → Every Small (jobClause T methods (n, t))
+  job-small : (T : Table) (methods : List (ℕ × ℕ)) (n : ℕ) (t : Task) → In N n → Narrow methods → Every Small (jobClause T methods (n, t))
   job-small T methods n (step s) i h = tt
   job-small T methods n (job j) i h = (behind-small (neg n) (λ m. eqb (jobOf T (m .1)) j) methods i (h .0) (h .1), tt)
 
-  body-small : (n : ℕ) (ts : List Task) (cs : List (List (ℕ × Task))) → 2 ≤ W → In n → ((c : List (ℕ × Task)) → c ∈ cs → Narrow c) → Every Small (bodyClauses n ts cs)
+  body-small : (n : ℕ) (ts : List Task) (cs : List (List (ℕ × Task))) → 2 ≤ W → In N n → ((c : List (ℕ × Task)) → c ∈ cs → Narrow c) → Every Small (bodyClauses n ts cs)
   body-small n ts [] w i h = tt
   body-small n [] (c ∷ cs) w i h =
       every-append Small (notBoth n c) (bodyClauses n [] cs) (both-small n c w i (h c (inl refl) .0)) (body-small n [] cs w i (λ d m. h d (inr m)))
   body-small n (t ∷ ts) (c ∷ cs) w i h =
       (behind-small (neg n) (λ x. same t (x .1)) c i (h c (inl refl) .0) (h c (inl refl) .1), body-small n ts cs w i (λ d m. h d (inr m)))
 
-  step-small : (n : ℕ) (t : Task) (cs : List (List (ℕ × Task))) → 2 ≤ W → In n → ((c : List (ℕ × Task)) → c ∈ cs → Narrow c) → Every Small (stepClauses cs (n, t))
+  step-small : (n : ℕ) (t : Task) (cs : List (List (ℕ × Task))) → 2 ≤ W → In N n → ((c : List (ℕ × Task)) → c ∈ cs → Narrow c) → Every Small (stepClauses cs (n, t))
   step-small n (step s) cs w i h = subst (Every Small) (sym (pass-body n s cs)) (body-small n (step s ∷ []) cs w i h)
   step-small n (job j) cs w i h = tt
 
-  up-small : (tasks : List (ℕ × Task)) (x : ℕ × Task) → Narrow tasks → In (x .0) → Small (upClause tasks x)
+  up-small : (tasks : List (ℕ × Task)) (x : ℕ × Task) → Narrow tasks → In N (x .0) → Small (upClause tasks x)
   up-small tasks x h i = record {
     short = omega (arith, length-append (allPos tasks) (neg (x .0) ∷ []), pos-length tasks, h .1);
-    inside = every-append LitIn (allPos tasks) (neg (x .0) ∷ []) (pos-in tasks (h .0)) (i, tt);
+    inside = every-append (LitIn N) (allPos tasks) (neg (x .0) ∷ []) (pos-in tasks (h .0)) (i, tt);
   }
 
   inner-small : (T : Table) (tasks : List (ℕ × Task)) (methods : List (ℕ × ℕ)) (cs : List (List (ℕ × Task))) → 2 ≤ W → Narrow tasks → Narrow methods
@@ -147,9 +148,9 @@ module _ (T : Table) (N W C : ℕ) (wide : Wide T W) where
 
   -- Rules 3 and 4 ------------------------------------------------------------------------------------------------------------------
   abbrev FactsIn : ℕ → ℕ → Type 0
-  FactsIn b i = (f : ℕ) → f < T .facts → In N W (factVar T b i f)
+  FactsIn b i = (f : ℕ) → f < T .facts → In N (factVar T b i f)
 
-  literal-in : (c : Bool) (n : ℕ) → In N W n → LitIn N W (literal c n)
+  literal-in : (c : Bool) (n : ℕ) → In N n → LitIn N (literal c n)
   literal-in true n i = i
   literal-in false n i = i
 
@@ -157,11 +158,11 @@ module _ (T : Table) (N W C : ℕ) (wide : Wide T W) where
   rule3-small b h = every-map (Small N W) (λ f. literal (initial T f) (factVar T b 0 f) ∷ []) (upTo (T .facts))
       (λ f m. record { short = omega (arith, wide .slots); inside = (literal-in (initial T f) (factVar T b 0 f) (h f (upTo-range f (T .facts) m)), tt) })
 
-  gate-small : (n : ℕ) (l : ℕ → Lit) (p : ℕ → Bool) → In N W n → ((f : ℕ) → f < T .facts → LitIn N W (l f)) → Every (Small N W) (map (λ f. neg n ∷ l f ∷ []) (factsThat T p))
+  gate-small : (n : ℕ) (l : ℕ → Lit) (p : ℕ → Bool) → In N n → ((f : ℕ) → f < T .facts → LitIn N (l f)) → Every (Small N W) (map (λ f. neg n ∷ l f ∷ []) (factsThat T p))
   gate-small n l p i h = every-map (Small N W) (λ f. neg n ∷ l f ∷ []) (factsThat T p)
       (λ f m. record { short = omega (arith, wide .slots); inside = (i, (h f (upTo-range f (T .facts) (in-filter-out p f (upTo (T .facts)) m .0)), tt)) })
 
-  effect-small : (b i : ℕ) (x : ℕ × ℕ) → In N W (x .0) → FactsIn b i → FactsIn b (suc i) → Every (Small N W) (effectClauses T b i x)
+  effect-small : (b i : ℕ) (x : ℕ × ℕ) → In N (x .0) → FactsIn b i → FactsIn b (suc i) → Every (Small N W) (effectClauses T b i x)
   effect-small b i x k h g =
       every-append (Small N W) (map (λ f. neg (x .0) ∷ pos (factVar T b i f) ∷ []) (factsThat T (has ((stepOf T (x .1)) .needs)))) _
       (gate-small (x .0) (λ f. pos (factVar T b i f)) (has ((stepOf T (x .1)) .needs)) k h)
@@ -170,10 +171,10 @@ module _ (T : Table) (N W C : ℕ) (wide : Wide T W) where
       (gate-small (x .0) (λ f. neg (factVar T b (suc i) f)) (drops (stepOf T (x .1))) k g))
 
   abbrev SlotIn : List (ℕ × ℕ) → Type 0
-  SlotIn xs = VarsIn N W xs × (2 + length xs ≤ W)
+  SlotIn xs = VarsIn N xs × (2 + length xs ≤ W)
 
   -- before and after, and some of the slot's steps
-  keep-small : (l m : Lit) (p : ℕ × ℕ → Bool) (xs : List (ℕ × ℕ)) → SlotIn xs → LitIn N W l → LitIn N W m → Small N W (l ∷ m ∷ allPos (filter p xs))
+  keep-small : (l m : Lit) (p : ℕ × ℕ → Bool) (xs : List (ℕ × ℕ)) → SlotIn xs → LitIn N l → LitIn N m → Small N W (l ∷ m ∷ allPos (filter p xs))
   keep-small l m p xs h i j = record { short = omega (arith, kept-length N W p xs, h .1); inside = (i, (j, kept-in N W p xs (h .0))) }
 
   frame-small : (b i : ℕ) (xs : List (ℕ × ℕ)) → SlotIn xs → FactsIn b i → FactsIn b (suc i) → Every (Small N W) (frameClauses T b i xs)
@@ -240,6 +241,6 @@ pub literal-range : (T : Table) → Sound T → LiteralsInRange T
 literal-range T s =
     let r = body-max (T .methods) in
     let W = 2 + (length (T .steps) + (T .jobs + length (T .methods))) in
-    every-imp (Small (variables T) W) (Every (LitIn (variables T) W)) (λ c h. h .inside) (formula T)
+    every-imp (Small (variables T) W) (Every (LitIn (variables T))) (λ c h. h .inside) (formula T)
     (formula-small T W (bodyMax (T .methods)) (record { slots = omega arith; tasks = omega arith; methods = omega arith })
     (root-sized T (bodyMax (T .methods)) (r .0) (r .1) (omega (arith, s .root))))

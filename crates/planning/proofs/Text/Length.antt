@@ -27,14 +27,14 @@ lit-length : (l : Lit) → variableOf l < 10 ^ 4 → length (litText l) ≤ 5
 lit-length (pos n) h = let k = decimal-length n 3 h in omega arith
 lit-length (neg n) h = let k = decimal-length n 3 h in omega arith
 
-lits-length : (N W : ℕ) (c : Clause) → N < 10 ^ 4 → Every (LitIn N W) c → length (concatMap (λ l. litText l ++ (32 ∷ [])) c) ≤ length c * 6
-lits-length N W [] h e = omega arith
-lits-length N W (l ∷ c) h e = omega (
+lits-length : (N : ℕ) (c : Clause) → N < 10 ^ 4 → Every (LitIn N) c → length (concatMap (λ l. litText l ++ (32 ∷ [])) c) ≤ length c * 6
+lits-length N [] h e = omega arith
+lits-length N (l ∷ c) h e = omega (
   arith,
   length-append (litText l ++ (32 ∷ [])) (concatMap (λ l. litText l ++ (32 ∷ [])) c),
   length-append (litText l) (32 ∷ []),
   lit-length l (omega (arith, e .0)),
-  lits-length N W c h (e .1),
+  lits-length N c h (e .1),
 )
 
 header-length : (v c : ℕ) → v ≤ 8191 → c < 10 ^ 9 → length (headerLine v c) ≤ 21
@@ -68,7 +68,7 @@ module _ (T : Table) (accepted : Accepted T) where
       omega (
         arith,
         length-append (concatMap (λ l. litText l ++ (32 ∷ [])) c) (48 ∷ 10 ∷ []),
-        lits-length (variables T) 129 c (omega (arith, accepted .few-variables)) (s .inside),
+        lits-length (variables T) c (omega (arith, accepted .few-variables)) (s .inside),
         s .short,
       )
 
