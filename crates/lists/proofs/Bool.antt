@@ -1,6 +1,6 @@
 -- Booleans, tests of numbers, and options.
 -- By cases.
-use mathlib.Core.Path.{_≡_, refl, sym}
+use mathlib.Core.Path.{_≡_, refl, sym, _∙_}
 use mathlib.Core.Bool.{Bool, true, false, not, _&&_, _||_}
 use mathlib.Core.Logic.{_⊎_, inl, inr}
 use mathlib.Core.Option.{Option, none, some}
@@ -23,6 +23,29 @@ false-of false u = refl
 pub not-true : (b : Bool) → not b ≡ true → b ≡ false
 not-true true h = sym h
 not-true false h = refl
+
+-- what `if !f(..)` tells of f's answer r, which is t
+pub said-no : {r t : Bool} → r ≡ t → not r ≡ true → t ≡ false
+said-no {r} e n = sym e ∙ not-true r n
+
+pub said-yes : {r t : Bool} → r ≡ t → not r ≡ false → t ≡ true
+said-yes {r} e n = sym e ∙ not-false r n
+  where
+    not-false : (b : Bool) → not b ≡ false → b ≡ true
+    not-false true h = refl
+    not-false false h = sym h
+
+pub and-off : (a : Bool) → (a && false) ≡ false
+and-off true = refl
+and-off false = refl
+
+pub and-on : (a : Bool) → (a && true) ≡ a
+and-on true = refl
+and-on false = refl
+
+pub or-off : (a : Bool) → (a || false) ≡ a
+or-off true = refl
+or-off false = refl
 
 pub and-l : (a b : Bool) → (a && b) ≡ true → a ≡ true
 and-l true b h = refl

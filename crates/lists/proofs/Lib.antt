@@ -3,3 +3,6 @@ pub mod Member
 pub mod Every
 pub mod Number
 pub mod Rising
+pub mod Order
+pub mod Question
+pub mod Place

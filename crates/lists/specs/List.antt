@@ -1,7 +1,7 @@
 -- Lists: the few functions that the definitions of every crate use, beside those of the language's own library.
 -- Assumes nothing.
 use mathlib.Core.Path.{_≡_}
-use mathlib.Core.Bool.{Bool, true, false, _&&_, _||_}
+use mathlib.Core.Bool.{Bool, true, false, not, cond, _&&_, _||_}
 use mathlib.Core.List.{List, [], _∷_, _++_}
 use mathlib.Core.Logic.{_⊎_}
 use Prim.Native.Nat.{ℕ, zero, suc, _≤_, _<_}
@@ -27,6 +27,26 @@ module _ {A : Type 0} where
   abbrev pub all : (A → Bool) → List A → Bool
   all p [] = true
   all p (x ∷ xs) = p x && all p xs
+
+  -- how many members stand before the first that passes the test: its place, counted from 0; their count, where none passes
+  abbrev pub findIndex : (A → Bool) → List A → ℕ
+  findIndex p [] = 0
+  findIndex p (x ∷ xs) = cond (p x) 0 (suc (findIndex p xs))
+
+  -- the first members, as long as they pass the test
+  abbrev pub takeWhile : (A → Bool) → List A → List A
+  takeWhile p [] = []
+  takeWhile p (x ∷ xs) = cond (p x) (x ∷ takeWhile p xs) []
+
+  -- the others: those from the first on that does not pass
+  abbrev pub dropWhile : (A → Bool) → List A → List A
+  dropWhile p [] = []
+  dropWhile p (x ∷ xs) = cond (p x) (dropWhile p xs) (x ∷ xs)
+
+  -- is no member equal, by the test `equal`, to a later one?
+  abbrev pub noneTwice : (A → A → Bool) → List A → Bool
+  noneTwice equal [] = true
+  noneTwice equal (x ∷ xs) = not (any (equal x) xs) && noneTwice equal xs
 
   -- each member with a number in front, rising from n
   abbrev pub number : ℕ → List A → List (ℕ × A)

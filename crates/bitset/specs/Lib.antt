@@ -1,0 +1,3 @@
+-- What a set of words means, and what its operations promise.
+pub mod Set
+pub mod Promises

@@ -1,0 +1,47 @@
+-- Sets of numbers as words (the field's bit sets), for any number of words.
+-- Assumes nothing.
+use mathlib.Core.Path.{_≡_}
+use mathlib.Core.Bool.{Bool}
+use mathlib.Core.List.{List, [], _∷_, _++_}
+use Prim.Native.Nat.{ℕ, _-_, _*_, _/_, _%_, _^_, min}
+use lib.Bits.{bitAnd, bitOr}
+use lib.Dec.{eqb}
+use lib.ListN.{length, getD, set, take, drop}
+use Rattle.lists.specs.List.{filter, upTo}
+
+-- binary digit i of the word w
+abbrev pub digit : ℕ → ℕ → ℕ
+digit w i = w / 2 ^ i % 2
+
+-- is i a member? It stands as digit i % 64 of word i / 64; past the last word nothing is one
+abbrev pub contains : List ℕ → ℕ → Bool
+contains ws i = eqb (digit (getD ws (i / 64) 0) (i % 64)) 1
+
+-- the members below n, rising
+abbrev pub membersBelow : List ℕ → ℕ → List ℕ
+membersBelow ws n = filter (contains ws) (upTo n)
+
+-- all members, rising
+abbrev pub members : List ℕ → List ℕ
+members ws = membersBelow ws (64 * length ws)
+
+-- ws with i as a member; as it was, where it has no word for i
+abbrev pub inserted : List ℕ → ℕ → List ℕ
+inserted ws i = set ws (i / 64) (bitOr (getD ws (i / 64) 0) (2 ^ (i % 64)))
+
+-- ws with those members of vs for which it has a word
+abbrev pub union : List ℕ → List ℕ → List ℕ
+union [] vs = []
+union (w ∷ ws) [] = w ∷ ws
+union (w ∷ ws) (v ∷ vs) = bitOr w v ∷ union ws vs
+
+-- ws without the members of vs
+abbrev pub difference : List ℕ → List ℕ → List ℕ
+difference [] vs = []
+difference (w ∷ ws) [] = w ∷ ws
+difference (w ∷ ws) (v ∷ vs) = (w - bitAnd w v) ∷ difference ws vs
+
+-- ms written to the front of o, as many as fit: r of them, and what stands after them stays
+pub record Listed (ms o o′ : List ℕ) (r : ℕ) : Type 0 where
+  pub count : r ≡ min (length ms) (length o)
+  pub text : o′ ≡ take r ms ++ drop r o

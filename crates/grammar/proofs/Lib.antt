@@ -1,0 +1,5 @@
+pub mod Bytes
+pub mod Scans
+pub mod Names
+pub mod Lines
+pub mod Files

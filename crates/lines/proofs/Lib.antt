@@ -1,0 +1,4 @@
+pub mod Slice
+pub mod Cutting
+pub mod Lines
+pub mod Same

@@ -1,0 +1,58 @@
+-- Comparing two parts byte by byte.
+-- What is left to compare tells the same as the whole.
+use mathlib.Core.Path.{_≡_, refl, sym, ap, _∙_}
+use mathlib.Core.Bool.{Bool, true, false, _&&_}
+use mathlib.Core.List.{List, [], _∷_}
+use Prim.Native.Nat.{ℕ, suc, _+_, _-_, _≤_, _<_}
+use native.Mathlib.Numerals.{add-one}
+use native.Mathlib.Omega.{arith}
+use lib.Dec.{eqb}
+use lib.ListN.{length, getD}
+use lib.Seq.{slice, slice-empty, slice-cons, length-slice}
+use borrow.Author.Tests.{eq-eqb, ne-eqb}
+use Rattle.lines.specs.Bytes.{sameBytes}
+
+same-length : (l m : List ℕ) → (length l ≡ length m → ⊥) → sameBytes l m ≡ false
+unfolding sameBytes
+same-length [] [] n = absurd (n refl)
+same-length [] (b ∷ m) n = refl
+same-length (a ∷ l) [] n = refl
+same-length (a ∷ l) (b ∷ m) n = rw (same-length l m (λ e. n (ap suc e))) (and-off (eqb a b))
+  where
+    and-off : (t : Bool) → (t && false) ≡ false
+    and-off true = refl
+    and-off false = refl
+
+-- what is left to compare, from i and from j on, tells the same as the whole
+pub record Alike (s : List ℕ) (a b c d i j : ℕ) : Type 0 where
+  pub first : i ≤ b
+  pub second : j ≤ d
+  pub even : b - i ≡ d - j
+  pub tells : sameBytes (slice i b s) (slice j d s) ≡ sameBytes (slice a b s) (slice c d s)
+
+pub alike-not : (s : List ℕ) (a b c d : ℕ) → b ≤ length s → d ≤ length s → (b - a ≡ d - c → ⊥) → false ≡ sameBytes (slice a b s) (slice c d s)
+alike-not s a b c d h k n = sym (same-length (slice a b s) (slice c d s) (λ e. n (sym (length-slice a b s h) ∙ e ∙ length-slice c d s k)))
+
+pub alike-first : {s : List ℕ} {a b c d : ℕ} → a ≤ b → c ≤ d → b - a ≡ d - c → Alike s a b c d a c
+alike-first h k e = record { first = h; second = k; even = e; tells = refl }
+
+module _ {s : List ℕ} {a b c d i j : ℕ} (u : Alike s a b c d i j) (h : b ≤ length s) (k : d ≤ length s) (l : i < b) where
+  pub alike-out : (getD s i 0 ≡ getD s j 0 → ⊥) → false ≡ sameBytes (slice a b s) (slice c d s)
+  alike-out n =
+      let m : j < d = omega (arith, u .even) in
+      let q : sameBytes (slice i b s) (slice j d s) ≡ false = unfold sameBytes in rw (slice-cons i b s 0 l h, slice-cons j d s 0 m k, ne-eqb (getD s i 0) (getD s j 0) n) in
+      sym q ∙ u .tells
+
+  pub alike-more : getD s i 0 ≡ getD s j 0 → Alike s a b c d (i + 1) (j + 1)
+  alike-more e =
+      let m : j < d = omega (arith, u .even) in
+      let q : sameBytes (slice i b s) (slice j d s) ≡ sameBytes (slice (i + 1) b s) (slice (j + 1) d s) = unfold sameBytes in rw (slice-cons i b s 0 l h, slice-cons j d s 0 m k, eq-eqb (getD s i 0) (getD s j 0) e, add-one i, add-one j) in
+      record { first = omega arith; second = omega arith; even = omega (arith, u .even); tells = sym q ∙ u .tells }
+
+pub alike-done : {s : List ℕ} {a b c d i j : ℕ} → Alike s a b c d i j → b ≤ i → true ≡ sameBytes (slice a b s) (slice c d s)
+unfolding sameBytes
+alike-done {s} {a} {b} {c} {d} {i} {j} u h =
+    let p : i ≡ b = omega (arith, u .first) in
+    let q : j ≡ d = omega (arith, u .even, u .second) in
+    let r : sameBytes (slice i b s) (slice j d s) ≡ true = rw (p, q, slice-empty b s, slice-empty d s) in
+    sym r ∙ u .tells

@@ -1,0 +1,5 @@
+pub mod Sections
+pub mod Names
+pub mod Questions
+pub mod Lookup
+pub mod Outlined

@@ -1,0 +1,56 @@
+-- Questions 4, 5 and 6, put to a whole file; and those from 2 on, one after the other.
+-- Assumes nothing.
+use mathlib.Core.Bool.{Bool, _&&_}
+use mathlib.Core.List.{List, [], _∷_}
+use Prim.Native.Nat.{ℕ}
+use lib.Dec.{leb}
+use lib.ListN.{length}
+use Rattle.lists.specs.List.{all}
+use Rattle.lines.specs.Parts.{Piece, linesOf}
+use Rattle.grammar.specs.Line.{bodyIn}
+use Rattle.grammar.specs.File.{met2, met3}
+use Rattle.outline.specs.Sections.{Sections, sections, isEnd}
+use Rattle.outline.specs.Names.{allNew, allDeclared}
+
+-- "4. Is the line order kept?" The F, S, T and M lines are taken off the front in that order, so what is left must be the I and the R line.
+unfoldable pub met4 : Sections → Bool
+unfolding isEnd
+met4 p = isEnd (p .ends)
+
+-- "At most 64 facts, 64 steps, 64 jobs, 128 methods, 8 names in a body."
+abbrev pub mostFacts : ℕ
+mostFacts = 64
+
+abbrev pub mostSteps : ℕ
+mostSteps = 64
+
+abbrev pub mostJobs : ℕ
+mostJobs = 64
+
+abbrev pub mostMethods : ℕ
+mostMethods = 128
+
+abbrev pub mostInBody : ℕ
+mostInBody = 8
+
+-- has the line a body of at most 8 names?
+unfoldable pub short : Piece → Bool
+unfolding bodyIn
+short l = leb (length (bodyIn (l .bytes))) mostInBody
+
+-- "5. Are the counts within the limits?"
+unfoldable pub met5 : Sections → Bool
+unfolding short
+met5 p =
+    leb (length (p .facts)) mostFacts && (leb (length (p .steps)) mostSteps && (leb (length (p .jobs)) mostJobs && (leb (length (p .methods)) mostMethods
+    && all short (p .methods))))
+
+-- "6. Is every declared name new over facts, steps and jobs together?"
+unfoldable pub met6 : Sections → Bool
+unfolding allDeclared allNew
+met6 p = allNew (allDeclared p)
+
+-- "Each is put to the whole file before the next."
+unfoldable pub questions2to5 : List ℕ → List (ℕ × Bool)
+unfolding met2 met3 met4 met5 linesOf sections
+questions2to5 s = let p = sections (linesOf s) in (2, met2 s) ∷ (3, met3 (linesOf s)) ∷ (4, met4 p) ∷ (5, met5 p) ∷ []

@@ -1,0 +1,8 @@
+pub mod FactList
+pub mod Counts
+pub mod BodyList
+pub mod Fields
+pub mod EndLines
+pub mod StepLines
+pub mod MethodLines
+pub mod Walks

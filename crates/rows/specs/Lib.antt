@@ -1,0 +1,8 @@
+-- The lines of a table file as numbers: used names, and question 7.
+--
+-- used names, and question 7
+pub mod Uses
+-- the lines of steps and methods
+pub mod Row
+-- what the code's answers mean
+pub mod Answers
