@@ -1,12 +1,13 @@
 -- Members by their place.
 -- By induction on the list.
-use mathlib.Core.Path.{_≡_, refl}
+use mathlib.Core.Path.{_≡_, refl, ap, ap₂, _∙_}
 use mathlib.Core.Bool.{Bool, true}
-use mathlib.Core.List.{List, [], _∷_, map}
-use Prim.Native.Nat.{ℕ, zero, suc, _+_, _<_}
+use mathlib.Core.List.{List, [], _∷_, _++_, map}
+use mathlib.Core.Option.{none, some}
+use Prim.Native.Nat.{ℕ, zero, suc, _+_, _≤_, _<_}
 use native.Mathlib.Omega.{arith}
-use lib.ListN.{length, getD}
-use Rattle.lists.specs.List.{all, from}
+use lib.ListN.{length, getD, getElem?}
+use Rattle.lists.specs.List.{all, from, upTo}
 use Rattle.lists.proofs.Bool.{and-l, and-r}
 
 pub getD-map-in : {A B : Type 0} (f : A → B) (xs : List A) (i : ℕ) (a : A) (b : B) → i < length xs → getD (map f xs) i b ≡ f (getD xs i a)
@@ -25,3 +26,46 @@ pub all-at : {A : Type 0} (p : A → Bool) (xs : List A) (i : ℕ) (d : A) → a
 all-at p [] i d e h = absurd (omega arith)
 all-at p (x ∷ xs) zero d e h = and-l (p x) (all p xs) e
 all-at p (x ∷ xs) (suc i) d e h = all-at p xs i d (and-r (p x) (all p xs) e) (omega arith)
+
+-- a function of places is a function of members, where it is so at each place
+pub map-from : {A B : Type 0} (f : ℕ → B) (g : A → B) (d : A) (k n : ℕ) (xs : List A) → n ≡ length xs
+    → ((i : ℕ) → i < length xs → f (k + i) ≡ g (getD xs i d)) → map f (from k n) ≡ map g xs
+map-from f g d k zero [] e h = refl
+map-from f g d k zero (x ∷ xs) e h = absurd (omega (arith, e))
+map-from f g d k (suc n) [] e h = absurd (omega (arith, e))
+map-from {A} {B} f g d k (suc n) (x ∷ xs) e h =
+    let z : k + 0 ≡ k = omega arith in
+    ap₂ (λ (b : B) (bs : List B). b ∷ bs) (rw z at (h 0 (omega arith)))
+    (map-from f g d (suc k) n xs (omega (arith, e)) (λ i l. let y : suc k + i ≡ k + suc i = omega arith in rw y (h (suc i) (omega arith))))
+
+pub map-upTo : {A B : Type 0} (f : ℕ → B) (g : A → B) (d : A) (n : ℕ) (xs : List A) → n ≡ length xs → ((i : ℕ) → i < length xs → f i ≡ g (getD xs i d)) → map f (upTo n) ≡ map g xs
+map-upTo f g d n xs e h = map-from f g d 0 n xs e (λ i l. let z : 0 + i ≡ i = omega arith in rw z (h i l))
+
+-- what stands at a place of a function of numbers
+pub getD-map-from : {B : Type 0} (f : ℕ → B) (k n i : ℕ) (d : B) → i < n → getD (map f (from k n)) i d ≡ f (k + i)
+getD-map-from f k zero i d h = absurd (omega arith)
+getD-map-from f k (suc n) zero d h = let z : k ≡ k + 0 = omega arith in ap f z
+getD-map-from f k (suc n) (suc i) d h = let z : suc k + i ≡ k + suc i = omega arith in getD-map-from f (suc k) n i d (omega arith) ∙ ap f z
+
+pub getD-map-past : {B : Type 0} (f : ℕ → B) (k n i : ℕ) (d : B) → n ≤ i → getD (map f (from k n)) i d ≡ d
+getD-map-past f k zero i d h = refl
+getD-map-past f k (suc n) zero d h = absurd (omega arith)
+getD-map-past f k (suc n) (suc i) d h = getD-map-past f (suc k) n i d (omega arith)
+
+pub elem-map-from : {B : Type 0} (f : ℕ → B) (k n i : ℕ) → i < n → getElem? (map f (from k n)) i ≡ some (f (k + i))
+elem-map-from f k zero i h = absurd (omega arith)
+elem-map-from f k (suc n) zero h = let z : k ≡ k + 0 = omega arith in ap (λ (j : ℕ). some (f j)) z
+elem-map-from f k (suc n) (suc i) h = let z : suc k + i ≡ k + suc i = omega arith in elem-map-from f (suc k) n i (omega arith) ∙ ap (λ (j : ℕ). some (f j)) z
+
+pub elem-map-past : {B : Type 0} (f : ℕ → B) (k n i : ℕ) → n ≤ i → getElem? (map f (from k n)) i ≡ none
+elem-map-past f k zero i h = refl
+elem-map-past f k (suc n) zero h = absurd (omega arith)
+elem-map-past f k (suc n) (suc i) h = elem-map-past f (suc k) n i (omega arith)
+
+-- numbers from k on, in two runs
+pub from-add : (k m n : ℕ) → from k (m + n) ≡ from k m ++ from (k + m) n
+from-add k zero n = let z : 0 + n ≡ n = omega arith in let y : k ≡ k + 0 = omega arith in ap (from k) z ∙ ap (λ (j : ℕ). from j n) y
+from-add k (suc m) n =
+    let z : suc m + n ≡ suc (m + n) = omega arith in
+    let y : suc k + m ≡ k + suc m = omega arith in
+    ap (from k) z ∙ ap (λ (l : List ℕ). k ∷ l) (from-add (suc k) m n ∙ ap (λ (j : ℕ). from (suc k) m ++ from j n) y)

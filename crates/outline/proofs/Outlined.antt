@@ -43,6 +43,22 @@ met-2to5 s e =
     let d = all-met 5 (met5 p) [] (lit< tt) (c .1) in
     record { second = a .0; third = b .0; fourth = c .0; fifth = d .0 }
 
+-- where question 6 is met too
+pub met-2to6 : (s : List ℕ) → 0 ≡ firstUnmet (questions2to6 s) → Met2to5 s × (met6 (sections (linesOf s)) ≡ true)
+unfolding questions2to6 questions2to5
+met-2to6 s e =
+    let p = sections (linesOf s) in
+    let r6 : List (ℕ × Bool) = (6, met6 p) ∷ [] in
+    let r5 : List (ℕ × Bool) = (5, met5 p) ∷ r6 in
+    let r4 : List (ℕ × Bool) = (4, met4 p) ∷ r5 in
+    let r3 : List (ℕ × Bool) = (3, met3 (linesOf s)) ∷ r4 in
+    let a = all-met 2 (met2 s) r3 (lit< tt) e in
+    let b = all-met 3 (met3 (linesOf s)) r4 (lit< tt) (a .1) in
+    let c = all-met 4 (met4 p) r5 (lit< tt) (b .1) in
+    let d = all-met 5 (met5 p) r6 (lit< tt) (c .1) in
+    let f = all-met 6 (met6 p) [] (lit< tt) (d .1) in
+    (record { second = a .0; third = b .0; fourth = c .0; fifth = d .0 }, f .0)
+
 refused-early : (s : List ℕ) (q : ℕ) → q ≡ firstUnmet (questions2to5 s) → (q ≡ 0 → ⊥) → q ≡ firstUnmet (questions2to6 s)
 unfolding questions2to6 questions2to5
 refused-early s q e n = let p = sections (linesOf s) in e ∙ go (met2 s) (met3 (linesOf s)) (met4 p) (met5 p) (met6 p) (λ z. n (e ∙ z))

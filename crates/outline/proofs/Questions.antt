@@ -70,13 +70,13 @@ module _ (s : List ℕ) where
   p = sections (linesOf s)
 
   -- the facts, then the rest; the facts and the steps, then the rest
-  lines-facts : linesFrom s 0 ≡ p .facts ++ (p .steps ++ (p .jobs ++ (p .methods ++ p .ends)))
+  pub lines-facts : linesFrom s 0 ≡ p .facts ++ (p .steps ++ (p .jobs ++ (p .methods ++ p .ends)))
   lines-facts = from-all s ∙ sym (parts-lines (linesOf s))
 
   lines-tasks : linesFrom s 0 ≡ p .facts ++ ((p .steps ++ p .jobs) ++ (p .methods ++ p .ends))
   lines-tasks = lines-facts ∙ ap (λ (l : List Piece). p .facts ++ l) (sym (append-assoc (p .steps) (p .jobs) (p .methods ++ p .ends)))
 
-  lines-jobs : linesFrom s 0 ≡ (p .facts ++ p .steps) ++ (p .jobs ++ (p .methods ++ p .ends))
+  pub lines-jobs : linesFrom s 0 ≡ (p .facts ++ p .steps) ++ (p .jobs ++ (p .methods ++ p .ends))
   lines-jobs = lines-facts ∙ sym (append-assoc (p .facts) (p .steps) (p .jobs ++ (p .methods ++ p .ends)))
 
   lines-all : linesFrom s 0 ≡ (p .facts ++ (p .steps ++ p .jobs)) ++ (p .methods ++ p .ends)

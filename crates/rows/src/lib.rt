@@ -113,13 +113,13 @@ fn step_sets<'a>(
 
 // The S lines: whether question 7 is met, and a word for each set of each step.
 pub struct Steps {
-    ok: bool,
-    needs: [u64; 64],
-    sets: [u64; 64],
-    clears: [u64; 64],
+    pub ok: bool,
+    pub needs: [u64; 64],
+    pub sets: [u64; 64],
+    pub clears: [u64; 64],
 }
 
-fn read_steps<'a>(s: &[u8], start: &'a [usize; 192], size: &'a [usize; 192], h: Shape) -> Steps
+pub fn read_steps<'a>(s: &[u8], start: &'a [usize; 192], size: &'a [usize; 192], h: Shape) -> Steps
     requires { ⌜ Ready (now s) h (now start) (now size) ⌝ }
     ensures { λ r. ⌜ StepsMean (declared (sections (linesOf (now (s .entry)))) fact) ((sections (linesOf (now (s .entry)))) .steps) (r .ok) (r .needs) (r .sets) (r .clears) ⌝ }
 {
@@ -220,13 +220,13 @@ fn read_method<'a>(
 
 // The M lines: whether question 7 is met, and each method's job, size and eight places for its tasks.
 pub struct Methods {
-    ok: bool,
-    owners: [u8; 128],
-    sizes: [u8; 128],
-    bodies: [u8; 1024],
+    pub ok: bool,
+    pub owners: [u8; 128],
+    pub sizes: [u8; 128],
+    pub bodies: [u8; 1024],
 }
 
-fn read_methods<'a>(s: &[u8], start: &'a [usize; 192], size: &'a [usize; 192], h: Shape) -> Methods
+pub fn read_methods<'a>(s: &[u8], start: &'a [usize; 192], size: &'a [usize; 192], h: Shape) -> Methods
     requires { ⌜ Ready (now s) h (now start) (now size) ⌝ }
     ensures { λ r. ⌜ MethodsMean (declared (sections (linesOf (now (s .entry)))) job) (declared (sections (linesOf (now (s .entry)))) task) ((sections (linesOf (now (s .entry)))) .methods) (r .ok) (r .owners) (r .sizes) (r .bodies) ⌝ }
 {
@@ -269,13 +269,13 @@ fn digit_of(s: &[u8], a: usize, b: usize) -> usize
 
 // The I line and the R line: whether question 7 is met, the set, the root job and the depth.
 pub struct Ends {
-    ok: bool,
-    start: FactSet,
-    root: usize,
-    depth: usize,
+    pub ok: bool,
+    pub start: FactSet,
+    pub root: usize,
+    pub depth: usize,
 }
 
-fn read_ends<'a>(s: &[u8], start: &'a [usize; 192], size: &'a [usize; 192], h: Shape) -> Ends
+pub fn read_ends<'a>(s: &[u8], start: &'a [usize; 192], size: &'a [usize; 192], h: Shape) -> Ends
     requires { ⌜ Ready (now s) h (now start) (now size) ⌝ }
     ensures { λ r. ⌜ EndsMean (sections (linesOf (now (s .entry)))) (r .ok) (r .start) (r .root) (r .depth) ⌝ }
 {

@@ -1,0 +1,139 @@
+-- The read as a whole: what the code answers is the reading of the file.
+-- Questions 2 to 6 first, then 7; where all are met, field by field.
+use mathlib.Core.Path.{_≡_, refl, sym, ap, ap₂, _∙_}
+use mathlib.Core.Bool.{Bool, true, false, not, cond, _&&_}
+use borrow.Author.Tests.{not-true, not-false}
+use mathlib.Core.List.{List, [], _∷_, _++_}
+use mathlib.Core.Logic.{⊎-elim}
+use Prim.Native.Nat.{ℕ, zero, suc}
+use lib.Seq.{slice}
+use Rattle.lists.specs.List.{all}
+use Rattle.lists.specs.Question.{firstUnmet}
+use Rattle.lists.proofs.Bool.{bool-cases, and-l, and-r}
+use Rattle.bitset.specs.Set.{membersBelow}
+use Rattle.planning.specs.Table.{Table}
+use Rattle.lines.specs.Parts.{linesOf, linesFrom}
+use Rattle.grammar.specs.Line.{nameIn, startIn}
+use Rattle.outline.specs.Sections.{sections, startLine, rootLine}
+use Rattle.outline.specs.Names.{among, fact, job, task, declared}
+use Rattle.outline.specs.Questions.{short, met6, questions2to5}
+use Rattle.outline.specs.Part.{Names, namesAt}
+use Rattle.outline.specs.Outlined.{withinCounts, Outlined, questions2to6}
+use Rattle.outline.specs.declared.Outline.{Outline}
+use Rattle.outline.proofs.Outlined.{Met2to5, met-2to6}
+use Rattle.outline.proofs.Questions.{fifth, counts-small, method-lines}
+use Rattle.rows.specs.Uses.{met7, isFacts, usesFacts, usesTasks}
+use Rattle.rows.specs.Answers.{Ready, StepsMean, MethodsMean, EndsMean}
+use Rattle.rows.specs.declared.Steps.{Steps}
+use Rattle.rows.specs.declared.Methods.{Methods}
+use Rattle.rows.specs.declared.Ends.{Ends}
+use Rattle.rows.proofs.Counts.{count-facts, count-steps}
+use Rattle.table.specs.Reading.{readTable, accepted, answer, questions2to7, reading}
+use Rattle.table.specs.Layout.{tableFrom, namesFrom, tableWith, readingOf}
+use Rattle.table.specs.declared.Table.{Table as ReadTable}
+use Rattle.table.proofs.Parts.{names-held}
+use Rattle.table.proofs.Rows.{steps-read, methods-read}
+
+-- Questions 2 to 6, then 7 ---------------------------------------------------------------------------------------------------
+later : (q : ℕ) (b : Bool) (xs : List (ℕ × Bool)) → q ≡ firstUnmet xs → (q ≡ 0 → ⊥) → q ≡ firstUnmet (xs ++ ((7, b) ∷ []))
+later q b [] e n = absurd (n e)
+later q b (x ∷ xs) e n = go (x .1) e (λ d. later q b xs d n)
+  where
+    go : (t : Bool) → q ≡ cond t (firstUnmet xs) (x .0) → (q ≡ firstUnmet xs → q ≡ firstUnmet (xs ++ ((7, b) ∷ [])))
+        → q ≡ cond t (firstUnmet (xs ++ ((7, b) ∷ []))) (x .0)
+    go true d h = h d
+    go false d h = d
+
+answer-refused : (q : ℕ) (t t′ : Table) (n n′ : Names) → (q ≡ 0 → ⊥) → answer q t n ≡ answer q t′ n′
+answer-refused zero t t′ n n′ h = absurd (h refl)
+answer-refused (suc q) t t′ n n′ h = refl
+
+module _ {s : List ℕ} {o : Outline} (u : Outlined s o) where
+  -- turned down by one of questions 2 to 6
+  pub read-early : (t : ReadTable) → (o .question ≡ 0 → ⊥) → readingOf (record { question = o .question; table = t }) ≡ reading s
+  unfolding reading questions2to7 readingOf
+  read-early t n =
+      let p = sections (linesOf s) in
+      answer-refused (o .question) (tableFrom t) (readTable p) (namesFrom t) (namesAt p) n
+      ∙ ap (λ (q : ℕ). answer q (readTable p) (namesAt p)) (later (o .question) (met7 p) (questions2to6 s) (u .asked) n)
+
+  module _ (z : o .question ≡ 0) where
+    met : Met2to5 s × (met6 (sections (linesOf s)) ≡ true)
+    met = met-2to6 s (sym z ∙ u .asked)
+
+    five : (withinCounts (o .shape .facts) (o .shape .steps) (o .shape .jobs) (o .shape .methods) && all short (slice 0 (o .shape .methods) (linesFrom s (o .shape .«methods_at»)))) ≡ true
+    five = sym (fifth (u .shaped)) ∙ met .0 .fifth
+
+    -- questions 2 to 6 are met
+    pub ready : Ready s (o .shape) (o .names .start) (o .names .size)
+    ready =
+        let h = o .shape in
+        let w = withinCounts (h .facts) (h .steps) (h .jobs) (h .methods) in
+        let b = all short (slice 0 (h .methods) (linesFrom s (h .«methods_at»))) in
+        let c = counts-small (h .facts) (h .steps) (h .jobs) (h .methods) (and-l w b five) in
+        record {
+          shaped = u .shaped;
+          indexed = u .indexed z;
+          facts = c .0;
+          steps = c .1;
+          jobs = c .2;
+          methods = c .3;
+          bodies = sym (ap (all short) (method-lines (u .shaped))) ∙ and-r w b five;
+          ends = met .0 .fourth;
+        }
+
+    asked7 : firstUnmet (questions2to7 s) ≡ cond (met7 (sections (linesOf s))) 0 7
+    unfolding questions2to7 questions2to6 questions2to5
+    asked7 = rw (met .0 .second, met .0 .third, met .0 .fourth, met .0 .fifth, met .1)
+
+    module _ (x : Steps) (m : Methods) (e : Ends)
+        (a : StepsMean (declared (sections (linesOf s)) fact) ((sections (linesOf s)) .steps) (x .ok) (x .needs) (x .sets) (x .clears))
+        (b : MethodsMean (declared (sections (linesOf s)) job) (declared (sections (linesOf s)) task) ((sections (linesOf s)) .methods) (m .ok) (m .owners) (m .sizes) (m .bodies))
+        (c : EndsMean (sections (linesOf s)) (e .ok) (e .start) (e .root) (e .depth)) where
+      seven : (x .ok && (m .ok && e .ok)) ≡ met7 (sections (linesOf s))
+      unfolding met7
+      seven = ap₂ _&&_ (a .told) (ap₂ _&&_ (b .told) (c .told))
+
+      read-table : met7 (sections (linesOf s)) ≡ true → tableFrom (tableWith (o .shape) (o .names) x m e) ≡ readTable (sections (linesOf s))
+      unfolding met7 readTable
+      read-table t =
+          let p = sections (linesOf s) in
+          let h = o .shape in
+          let t₁ = all (λ l. usesFacts (declared p fact) (l .bytes)) (p .steps) in
+          let t₂ = all (λ l. usesTasks (declared p job) (declared p task) (l .bytes)) (p .methods) in
+          let t₃ = isFacts (declared p fact) (startIn (startLine p)) in
+          let t₄ = among (declared p job) (nameIn (rootLine p)) in
+          let i = ready .indexed in
+          let ss = steps-read (declared p fact) (p .steps) (x .needs) (x .sets) (x .clears) (x .ok) (h .facts) (h .steps) (count-facts ready) (i .steps) a (and-l t₁ (t₂ && (t₃ && t₄)) t) in
+          let ms = methods-read p (p .methods) (m .owners) (m .sizes) (m .bodies) (m .ok) (h .steps) (h .methods) (count-steps ready) (u .shaped .methods) b in
+          let st = ap (membersBelow (e .start)) (sym (count-facts ready)) ∙ c .set (and-l t₃ t₄ (and-r t₂ (t₃ && t₄) (and-r t₁ (t₂ && (t₃ && t₄)) t))) in
+          λ k. record { facts = i .facts k; steps = ss k; jobs = i .jobs k; methods = ms k; start = st k; root = c .root k; depth = c .depth k }
+
+      -- question 7, and the table where it is met
+      pub read-late : (q : ℕ) (t : ReadTable) → q ≡ cond (x .ok && (m .ok && e .ok)) 0 7 → t ≡ tableWith (o .shape) (o .names) x m e
+          → readingOf (record { question = q; table = t }) ≡ reading s
+      unfolding reading readingOf
+      read-late q t d w =
+          let p = sections (linesOf s) in
+          let d₁ : q ≡ cond (met7 p) 0 7 = d ∙ ap (λ (k : Bool). cond k 0 7) seven in
+          let found : (k : Bool) → met7 p ≡ k → readingOf (record { question = q; table = t }) ≡ readingOf (record { question = cond k 0 7; table = tableWith (o .shape) (o .names) x m e })
+              = λ k y. ap₂ (λ (n : ℕ) (r : ReadTable). answer n (tableFrom r) (namesFrom r)) (d₁ ∙ ap (λ (j : Bool). cond j 0 7) y) w in
+          let asked : (k : Bool) → met7 p ≡ k → answer (cond k 0 7) (readTable p) (namesAt p) ≡ reading s
+              = λ k y. sym (ap (λ (n : ℕ). answer n (readTable p) (namesAt p)) (asked7 ∙ ap (λ (j : Bool). cond j 0 7) y)) in
+          ⊎-elim
+          (λ y. found true y ∙ ap₂ accepted (read-table y) (names-held (ready .indexed)) ∙ asked true y)
+          (λ n. found false n ∙ asked false n)
+          (bool-cases (met7 p))
+
+-- the number by cases
+pub seventh-first : (a b c : Bool) → not a ≡ true → _≡_ {A = ℕ} 7 (cond (a && (b && c)) 0 7)
+seventh-first a b c n = rw (not-true a n)
+
+pub seventh-second : (a b c : Bool) → not a ≡ false → not b ≡ true → _≡_ {A = ℕ} 7 (cond (a && (b && c)) 0 7)
+seventh-second a b c y n = rw (not-false a y, not-true b n)
+
+pub seventh-third : (a b c : Bool) → not a ≡ false → not b ≡ false → not c ≡ true → _≡_ {A = ℕ} 7 (cond (a && (b && c)) 0 7)
+seventh-third a b c y z n = rw (not-false a y, not-false b z, not-true c n)
+
+pub seventh-none : (a b c : Bool) → not a ≡ false → not b ≡ false → not c ≡ false → _≡_ {A = ℕ} 0 (cond (a && (b && c)) 0 7)
+seventh-none a b c y z w = rw (not-false a y, not-false b z, not-false c w)
