@@ -1,5 +1,9 @@
+pub mod Computed
 pub mod Tasks
 pub mod Parts
 pub mod Rows
 pub mod Whole
 pub mod Access
+pub mod Depth
+pub mod Shown
+pub mod Promised

@@ -4,5 +4,6 @@
 pub mod Reading
 -- what the code's table means
 pub mod Layout
--- the statements: what holds of every reading, the marked tables' files, the edges
+-- the statements: what holds of every reading; the files of the marked tables, and the edges
 pub mod Promises
+pub mod Examples
