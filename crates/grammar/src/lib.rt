@@ -10,7 +10,6 @@ ghost use Rattle.grammar.specs.Name.{isName, isHyphen, isList, namesIn};
 ghost use Rattle.grammar.specs.Line.{isDepth, hasForm, formed, isLine, begins};
 ghost use Rattle.grammar.specs.File.{met2, met3};
 ghost use Rattle.grammar.specs.Field.{At, formOf, formsOf};
-
 use lines::cut;
 
 // A lowercase letter.

@@ -102,7 +102,7 @@ module _ (s : List ℕ) where
     unfolding declared
     names-jobs = ap namesOf (ap (slice (f + st) (f + st + j)) lines-jobs
         ∙ slice-middle (p .facts ++ p .steps) (p .jobs) (p .methods ++ p .ends) (f + st) (f + st + j)
-            (omega (arith, qf, qs, length-append (p .facts) (p .steps))) (omega (arith, qf, qs, qj, length-append (p .facts) (p .steps))))
+        (omega (arith, qf, qs, length-append (p .facts) (p .steps))) (omega (arith, qf, qs, qj, length-append (p .facts) (p .steps))))
 
     pub names-tasks : namesOf (slice f (f + st + j) (linesFrom s 0)) ≡ declared p task
     unfolding declared
@@ -209,6 +209,9 @@ module _ (f st j m : ℕ) where
   pub counts-small : withinCounts f st j m ≡ true → (f ≤ 64) × (st ≤ 64) × (j ≤ 64) × (m ≤ 128)
   counts-small e =
       let b = and-r (leb f 64) (leb st 64 && (leb j 64 && leb m 128)) e in
-      let c = and-r (leb st 64) (leb j 64 && leb m 128) b in
-      (leb-sound f 64 (and-l (leb f 64) (leb st 64 && (leb j 64 && leb m 128)) e), leb-sound st 64 (and-l (leb st 64) (leb j 64 && leb m 128) b),
-        leb-sound j 64 (and-l (leb j 64) (leb m 128) c), leb-sound m 128 (and-r (leb j 64) (leb m 128) c))
+      let c = and-r (leb st 64) (leb j 64 && leb m 128) b in (
+        leb-sound f 64 (and-l (leb f 64) (leb st 64 && (leb j 64 && leb m 128)) e),
+        leb-sound st 64 (and-l (leb st 64) (leb j 64 && leb m 128) b),
+        leb-sound j 64 (and-l (leb j 64) (leb m 128) c),
+        leb-sound m 128 (and-r (leb j 64) (leb m 128) c),
+      )

@@ -12,7 +12,6 @@ ghost use Rattle.outline.specs.Names.{namesOf, numberOf, allNew, declare
 ghost use Rattle.outline.specs.Questions.{short, questions2to5};
 ghost use Rattle.outline.specs.Index.{Runs, Shaped, Entry, Held, Indexed};
 ghost use Rattle.outline.specs.Outlined.{kindOf, withinCounts, Outlined};
-
 use grammar::are_lines;
 use grammar::count_names;
 use grammar::field_at;

@@ -56,7 +56,7 @@ module _ {s : List ℕ} {h : Shape} {starts sizes : List ℕ} (u : Ready s h sta
     pub root-line : slice (b + 1) e s ≡ rootLine p
     root-line =
         let r : p .ends ≡ lineAt s (h .«ends_at») b ∷ lineAt s (b + 1) e ∷ linesFrom s (e + 1)
-            = first-line ∙ ap (λ (ls : List Piece). lineAt s (h .«ends_at») b ∷ ls) (from-more j (λ q. let l = root-ended in omega arith)) in
+        = first-line ∙ ap (λ (ls : List Piece). lineAt s (h .«ends_at») b ∷ ls) (from-more j (λ q. let l = root-ended in omega arith)) in
         sym (ap (λ (ls : List Piece). (getD ls 1 noLine) .bytes) r)
 
 -- the two lines' fields together

@@ -69,8 +69,16 @@ module _ {fs : List Name} {ls : List Piece} {ok : Bool} {xs ys zs : List ℕ} {i
           → stepWith (length fs) (getD (set xs i (getD x 0 0)) j 0 ∷ []) (getD (set ys i (getD y 0 0)) j 0 ∷ []) (getD (set zs i (getD z 0 0)) j 0 ∷ []) ≡ readStep fs ((getD ls j noLine) .bytes)
       go j k (inl n) o =
           let q : j ≡ i = omega arith in
-          rw (q, getD-set-same xs i (getD x 0 0) 0 (omega (arith, u .wide .0)), getD-set-same ys i (getD y 0 0) 0 (omega (arith, u .wide .1)), getD-set-same zs i (getD z 0 0) 0 (omega (arith, u .wide .2)),
-            one-word x (m .wide .0), one-word y (m .wide .1), one-word z (m .wide .2), ← e)
+          rw (
+            q,
+            getD-set-same xs i (getD x 0 0) 0 (omega (arith, u .wide .0)),
+            getD-set-same ys i (getD y 0 0) 0 (omega (arith, u .wide .1)),
+            getD-set-same zs i (getD z 0 0) 0 (omega (arith, u .wide .2)),
+            one-word x (m .wide .0),
+            one-word y (m .wide .1),
+            one-word z (m .wide .2),
+            ← e,
+          )
           (m .step (rw (e, ← q) o))
       go j k (inr n) o =
           rw (getD-set-other xs i j (getD x 0 0) 0 (λ q. omega arith), getD-set-other ys i j (getD y 0 0) 0 (λ q. omega arith), getD-set-other zs i j (getD z 0 0) 0 (λ q. omega arith)) (u .at j n o)

@@ -11,13 +11,12 @@ ghost use Rattle.grammar.specs.Line.{bodyIn};
 ghost use Rattle.outline.specs.Sections.{sections};
 ghost use Rattle.outline.specs.Names.{fact, job, task, declared};
 ghost use Rattle.rows.specs.Answers.{Ready, FactsMean, StepMeans, StepsMean, BodyMeans, MethodMeans, MethodsMean, EndsMean};
-
 use grammar::field_at;
 use grammar::is_hyphen;
 use lines::cut;
-use outline::look_up;
-use outline::Shape;
 use outline::Kind;
+use outline::Shape;
+use outline::look_up;
 
 // A set of facts: a word for each 64 of them.
 pub type FactSet = [u64; 1];
@@ -55,16 +54,10 @@ fn fact_set<'a>(
         let e = cut(s, i, b, b',');
         let k = look_up(s, start, size, h.facts, h.steps, h.jobs, Kind::Fact, i, e);
         if k >= h.facts {
-            return Facts {
-                ok: false,
-                set: w,
-            };
+            return Facts { ok: false, set: w };
         }
         if bitset::has(&w, k) {
-            return Facts {
-                ok: false,
-                set: w,
-            };
+            return Facts { ok: false, set: w };
         }
         bitset::insert(&mut w, k);
         if e == b {
@@ -208,7 +201,17 @@ fn read_method<'a>(
     ensures { λ r. ⌜ MethodMeans (declared (sections (linesOf (now (s .entry)))) job) (declared (sections (linesOf (now (s .entry)))) task) (slice a b (now (s .entry))) at (now (bodies .entry)) (now (bodies .exit)) (r .ok) (r .owner) (r .size) ⌝ }
 {
     let f = field_at(s, a, b, 1);
-    let j = look_up(s, start, size, h.facts, h.steps, h.jobs, Kind::Job, f.from, f.to);
+    let j = look_up(
+        s,
+        start,
+        size,
+        h.facts,
+        h.steps,
+        h.jobs,
+        Kind::Job,
+        f.from,
+        f.to,
+    );
     let g = field_at(s, a, b, 2);
     let t = read_body(s, start, size, h, g.from, g.to, bodies, at);
     Method {
@@ -226,7 +229,12 @@ pub struct Methods {
     pub bodies: [u8; 1024],
 }
 
-pub fn read_methods<'a>(s: &[u8], start: &'a [usize; 192], size: &'a [usize; 192], h: Shape) -> Methods
+pub fn read_methods<'a>(
+    s: &[u8],
+    start: &'a [usize; 192],
+    size: &'a [usize; 192],
+    h: Shape,
+) -> Methods
     requires { ⌜ Ready (now s) h (now start) (now size) ⌝ }
     ensures { λ r. ⌜ MethodsMean (declared (sections (linesOf (now (s .entry)))) job) (declared (sections (linesOf (now (s .entry)))) task) ((sections (linesOf (now (s .entry)))) .methods) (r .ok) (r .owners) (r .sizes) (r .bodies) ⌝ }
 {
@@ -287,7 +295,17 @@ pub fn read_ends<'a>(s: &[u8], start: &'a [usize; 192], size: &'a [usize; 192], 
     let d = b + 1;
     let e = cut(s, d, n, b'\n');
     let g = field_at(s, d, e, 1);
-    let j = look_up(s, start, size, h.facts, h.steps, h.jobs, Kind::Job, g.from, g.to);
+    let j = look_up(
+        s,
+        start,
+        size,
+        h.facts,
+        h.steps,
+        h.jobs,
+        Kind::Job,
+        g.from,
+        g.to,
+    );
     let k = field_at(s, d, e, 2);
     let set = x.set;
     Ends {

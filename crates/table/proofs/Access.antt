@@ -1,26 +1,25 @@
 -- The calls of a table: what each says of the table that it holds.
 -- A number below the count has its entry; past it there is nothing.
 use mathlib.Core.Path.{_≡_, refl, sym, ap, ap₂, _∙_}
-use mathlib.Core.Bool.{false}
-use mathlib.Core.List.{List, [], _∷_, _++_, map}
-use mathlib.Core.Option.{Option, some}
+use mathlib.Core.Bool.{false, cond, _&&_}
+use mathlib.Core.Logic.{⊎-elim}
+use mathlib.Core.List.{List, [], _∷_, map}
+use mathlib.Core.Option.{Option, none, some}
 use Prim.Native.Nat.{ℕ, zero, suc, _+_, _-_, _*_, _/_, _%_, _≤_, _<_}
 use native.Mathlib.Omega.{arith}
-use lib.Dec.{eqb}
+use lib.Dec.{eqb, ltb}
 use lib.ListN.{length, getD, getElem?, take, drop, length-map, length-drop, List·getD-eq-default, drop-of-length-le}
 use lib.Seq.{take-all, take-nil, drop-length}
 use borrow.Author.Tests.{lt-ltb, le-ltb}
 use Rattle.lists.specs.List.{from, upTo, filter}
 use Rattle.lists.proofs.Number.{length-from}
-use Rattle.lists.proofs.Place.{getD-map-from, getD-map-past, elem-map-from, elem-map-past, from-add}
+use Rattle.lists.proofs.Order.{le-or-lt}
+use Rattle.lists.proofs.Place.{getD-map-from, getD-map-past, elem-map-from}
 use Rattle.bitset.specs.Set.{digit, contains, membersBelow}
 use Rattle.bitset.proofs.Digits.{digit-none}
 use Rattle.planning.specs.Table.{Step, Method, noStep, noMethod, stepOf, jobOf, bodyOf, Task as PlanningTask}
-use Rattle.outline.specs.Names.{Kind, fact, step as stepKind, job as jobKind, task}
 use Rattle.outline.specs.Part.{Part, shown}
-use Rattle.outline.specs.Outlined.{kindOf}
-use Rattle.outline.specs.declared.Kind.{Kind as KindWanted}
-use Rattle.table.specs.Layout.{taskAt, stepFrom, methodFrom, tableFrom, partFrom, namesFrom, noPart, partsOf, namePart, kindStart, kindCount, taskFrom}
+use Rattle.table.specs.Layout.{taskAt, stepFrom, methodFrom, tableFrom, partWith, noPart, taskFrom}
 use Rattle.table.specs.declared.Table.{Table}
 use Rattle.table.specs.declared.Task.the-variants.{Step as StepTask, Job as JobTask, Nothing}
 
@@ -36,6 +35,24 @@ part-short s a n h = let e = length-drop a s in take-all (length s - a) (drop a 
 
 pub part-whole : (s : List ℕ) (a n : ℕ) → take (a + n - a) (drop a s) ≡ take n (drop a s)
 part-whole s a n = let e : a + n - a ≡ n = omega arith in ap (λ (k : ℕ). take k (drop a s)) e
+
+-- an entry below a count
+pub below-in : (a : List ℕ) (n i : ℕ) {w : ℕ} → w ≡ getD a i 0 → i < n → w ≡ cond (ltb i n) (getD a i 0) 0
+below-in a n i e h = e ∙ rw (lt-ltb i n h)
+
+pub below-past : (a : List ℕ) (n i : ℕ) → n ≤ i → 0 ≡ cond (ltb i n) (getD a i 0) 0
+below-past a n i h = rw (le-ltb i n h)
+
+-- a byte of a body
+module _ (a : List ℕ) (n m j : ℕ) where
+  pub body-none : n ≤ m → 0 ≡ cond (ltb m n && ltb j 256) (getD a (m * 8 + j) 0) 0
+  body-none h = rw (le-ltb m n h)
+
+  pub body-far : m < n → 256 ≤ j → 0 ≡ cond (ltb m n && ltb j 256) (getD a (m * 8 + j) 0) 0
+  body-far h k = rw (lt-ltb m n h, le-ltb j 256 k)
+
+  pub body-there : m < n → j < 256 → {r : ℕ} → r ≡ getD a (m * 8 + j) 0 → r ≡ cond (ltb m n && ltb j 256) (getD a (m * 8 + j) 0) 0
+  body-there h k e = e ∙ rw (lt-ltb m n h, lt-ltb j 256 k)
 
 -- Steps ----------------------------------------------------------------------------------------------------------------------
 empty-set : (n : ℕ) → membersBelow (0 ∷ []) n ≡ []
@@ -63,13 +80,14 @@ module _ (t : Table) where
     step-past : t .steps ≤ i → stepOf (tableFrom t) i ≡ noStep
     step-past h = getD-map-past (stepFrom t) 0 (t .steps) i noStep h
 
-    -- each set of a step, by the field g and the words w
-    pub set-past : (g : Step → List ℕ) → g noStep ≡ [] → t .steps ≤ i → membersBelow (0 ∷ []) (t .facts) ≡ g (stepOf (tableFrom t) i)
-    set-past g e h = empty-set (t .facts) ∙ sym (ap g (step-past h) ∙ e)
-
-    pub set-in : (g : Step → List ℕ) (ws : List ℕ) (w : ℕ) → w ≡ getD ws i 0 → g (stepFrom t i) ≡ membersBelow (getD ws i 0 ∷ []) (t .facts) → i < t .steps
-        → membersBelow (w ∷ []) (t .facts) ≡ g (stepOf (tableFrom t) i)
-    set-in g ws w e d h = ap (λ (v : ℕ). membersBelow (v ∷ []) (t .facts)) e ∙ sym d ∙ ap g (step-in h)
+    -- each set of a step, by the field g and the words ws
+    pub step-set : (g : Step → List ℕ) (ws : List ℕ) → g noStep ≡ [] → g (stepFrom t i) ≡ membersBelow (getD ws i 0 ∷ []) (t .facts)
+        → (r : List ℕ) → r ≡ cond (ltb i (t .steps)) (getD ws i 0) 0 ∷ [] → membersBelow r (t .facts) ≡ g (stepOf (tableFrom t) i)
+    step-set g ws e d r q =
+        let none-there : t .steps ≤ i → membersBelow (cond (ltb i (t .steps)) (getD ws i 0) 0 ∷ []) (t .facts) ≡ [] = λ h. rw (le-ltb i (t .steps) h) (empty-set (t .facts)) in
+        let there : i < t .steps → membersBelow (cond (ltb i (t .steps)) (getD ws i 0) 0 ∷ []) (t .facts) ≡ g (stepFrom t i) = λ h. rw (lt-ltb i (t .steps) h) (sym d) in
+        ap (λ (v : List ℕ). membersBelow v (t .facts)) q
+        ∙ ⊎-elim (λ h. none-there h ∙ sym (ap g (step-past h) ∙ e)) (λ h. there h ∙ ap g (step-in h)) (le-or-lt (t .steps) i)
 
   -- Methods ------------------------------------------------------------------------------------------------------------------
   module _ (m : ℕ) where
@@ -79,36 +97,48 @@ module _ (t : Table) where
     method-past : t .methods ≤ m → getD ((tableFrom t) .methods) m noMethod ≡ noMethod
     method-past h = getD-map-past (methodFrom t) 0 (t .methods) m noMethod h
 
-    pub job-past : t .methods ≤ m → 0 ≡ jobOf (tableFrom t) m
-    job-past h = sym (ap (λ (k : Method). k .of) (method-past h))
-
-    pub job-in : (r : ℕ) → r ≡ getD (t .owners) m 0 → m < t .methods → r ≡ jobOf (tableFrom t) m
-    job-in r e h = e ∙ sym (ap (λ (k : Method). k .of) (method-in h))
-
-    pub size-past : t .methods ≤ m → 0 ≡ length (bodyOf (tableFrom t) m)
-    size-past h = sym (ap (λ (k : Method). length (k .body)) (method-past h))
-
     body-length : length ((methodFrom t m) .body) ≡ getD (t .sizes) m 0
     body-length = length-map (upTo (getD (t .sizes) m 0)) (λ j. taskAt (t .steps) (getD (t .bodies) (m * 8 + j) 0)) ∙ length-from 0 (getD (t .sizes) m 0)
 
-    pub size-in : (r : ℕ) → r ≡ getD (t .sizes) m 0 → m < t .methods → r ≡ length (bodyOf (tableFrom t) m)
-    size-in r e h = e ∙ sym (ap (λ (k : Method). length (k .body)) (method-in h) ∙ body-length)
+    -- a number of a method, by the function g and the bytes bs
+    method-number : (g : Method → ℕ) (bs : List ℕ) → g noMethod ≡ 0 → g (methodFrom t m) ≡ getD bs m 0 → (r : ℕ) → r ≡ cond (ltb m (t .methods)) (getD bs m 0) 0
+        → r ≡ g (getD ((tableFrom t) .methods) m noMethod)
+    method-number g bs e d r q = q ∙ ⊎-elim
+        (λ h. rw (le-ltb m (t .methods) h) (sym (ap g (method-past h) ∙ e)))
+        (λ h. rw (lt-ltb m (t .methods) h) (sym (ap g (method-in h) ∙ d)))
+        (le-or-lt (t .methods) m)
 
-    module _ (j : ℕ) where
-      pub task-no-method : t .methods ≤ m → taskFrom Nothing ≡ getElem? (bodyOf (tableFrom t) m) j
-      task-no-method h = sym (ap (λ (k : Method). getElem? (k .body) j) (method-past h))
+    pub job-told : (r : ℕ) → r ≡ cond (ltb m (t .methods)) (getD (t .owners) m 0) 0 → r ≡ jobOf (tableFrom t) m
+    job-told r q = method-number (λ k. k .of) (t .owners) refl refl r q
 
-      pub task-past : (n : ℕ) → n ≡ getD (t .sizes) m 0 → m < t .methods → n ≤ j → taskFrom Nothing ≡ getElem? (bodyOf (tableFrom t) m) j
-      task-past n e h l = sym (ap (λ (k : Method). getElem? (k .body) j) (method-in h)
-          ∙ elem-map-past (λ i. taskAt (t .steps) (getD (t .bodies) (m * 8 + i) 0)) 0 (getD (t .sizes) m 0) j (omega (arith, e)))
+    pub size-told : (r : ℕ) → r ≡ cond (ltb m (t .methods)) (getD (t .sizes) m 0) 0 → r ≡ length (bodyOf (tableFrom t) m)
+    size-told r q = method-number (λ k. length (k .body)) (t .sizes) refl body-length r q
 
-      pub task-here : (n k : ℕ) {r : Option PlanningTask} → n ≡ getD (t .sizes) m 0 → m < t .methods → j < n → k ≡ getD (t .bodies) (m * 8 + j) 0 → r ≡ some (taskAt (t .steps) k)
-          → r ≡ getElem? (bodyOf (tableFrom t) m) j
-      task-here n k e h l d q =
-          let z : 0 + j ≡ j = omega arith in
-          q ∙ ap (λ (i : ℕ). some (taskAt (t .steps) i)) d
-          ∙ sym (ap (λ (k : Method). getElem? (k .body) j) (method-in h)
-            ∙ elem-map-from (λ i. taskAt (t .steps) (getD (t .bodies) (m * 8 + i) 0)) 0 (getD (t .sizes) m 0) j (omega (arith, e))
+    module _ (j n : ℕ) (q : n ≡ cond (ltb m (t .methods)) (getD (t .sizes) m 0) 0) where
+      pub task-past : n ≤ j → taskFrom Nothing ≡ getElem? (bodyOf (tableFrom t) m) j
+      task-past h = sym (elem-past (bodyOf (tableFrom t) m) j (omega (arith, size-told n q)))
+        where
+          elem-past : (l : List PlanningTask) (i : ℕ) → length l ≤ i → getElem? l i ≡ none
+          elem-past [] i h = refl
+          elem-past (x ∷ l) zero h = absurd (omega arith)
+          elem-past (x ∷ l) (suc i) h = elem-past l i (omega arith)
+
+      -- there is a method where the body has a place
+      module _ (h : j < n) where
+        method-there : m < t .methods
+        method-there = ⊎-elim (λ g. let z : n ≡ 0 = q ∙ rw (le-ltb m (t .methods) g) in absurd (omega arith)) (λ g. g) (le-or-lt (t .methods) m)
+
+        size-there : n ≡ getD (t .sizes) m 0
+        size-there = q ∙ rw (lt-ltb m (t .methods) method-there)
+
+        pub task-here : n < 256 → (k : ℕ) {r : Option PlanningTask} → k ≡ cond (ltb m (t .methods) && ltb j 256) (getD (t .bodies) (m * 8 + j) 0) 0 → r ≡ some (taskAt (t .steps) k)
+            → r ≡ getElem? (bodyOf (tableFrom t) m) j
+        task-here b k d e =
+            let z : 0 + j ≡ j = omega arith in
+            let y : k ≡ getD (t .bodies) (m * 8 + j) 0 = d ∙ rw (lt-ltb m (t .methods) method-there, lt-ltb j 256 (omega arith)) in
+            e ∙ ap (λ (i : ℕ). some (taskAt (t .steps) i)) y
+            ∙ sym (ap (λ (k : Method). getElem? (k .body) j) (method-in method-there)
+            ∙ elem-map-from (λ i. taskAt (t .steps) (getD (t .bodies) (m * 8 + i) 0)) 0 (getD (t .sizes) m 0) j (omega (arith, size-there))
             ∙ ap (λ (i : ℕ). some (taskAt (t .steps) (getD (t .bodies) (m * 8 + i) 0))) z)
 
 -- a step or a job
@@ -119,40 +149,18 @@ pub task-job : (n k : ℕ) → n ≤ k → taskFrom (JobTask (k - n)) ≡ some (
 task-job n k h = rw (le-ltb k n h)
 
 -- Names ----------------------------------------------------------------------------------------------------------------------
--- the names of a kind are a run of all names
-kind-parts : (t : Table) (k : Kind) → partsOf (namesFrom t) k ≡ map (partFrom t) (from (kindStart (t .facts) (t .steps) k) (kindCount (t .facts) (t .steps) (t .jobs) k))
-kind-parts t fact = refl
-kind-parts t stepKind = refl
-kind-parts t jobKind = refl
-kind-parts t task = sym (ap (map (partFrom t)) (from-add (t .facts) (t .steps) (t .jobs)) ∙ map-append (partFrom t) (from (t .facts) (t .steps)) (from (t .facts + t .steps) (t .jobs)))
-  where
-    map-append : (f : ℕ → Part) (a b : List ℕ) → map f (a ++ b) ≡ map f a ++ map f b
-    map-append f [] b = refl
-    map-append f (x ∷ a) b = ap (λ (l : List Part). f x ∷ l) (map-append f a b)
+pub name-past : (p : Part) (s r : List ℕ) (n i : ℕ) → n ≤ i → r ≡ take 0 (drop 0 s) → r ≡ shown s (cond (ltb i n) p noPart)
+name-past p s r n i h e = rw (le-ltb i n h) e
 
-module _ (t : Table) (k : Kind) (i : ℕ) where
-  abbrev first : ℕ
-  first = kindStart (t .facts) (t .steps) k
+pub name-in : (starts sizes : List ℕ) (s r : List ℕ) (n i k x y : ℕ) → i < n → x ≡ getD starts k 0 → y ≡ getD sizes k 0 → r ≡ take y (drop x s)
+    → r ≡ shown s (cond (ltb i n) (partWith starts sizes k) noPart)
+name-in starts sizes s r n i k x y h p q e = rw (lt-ltb i n h) (e ∙ ap₂ (λ (m l : ℕ). take l (drop m s)) p q)
 
-  abbrev count : ℕ
-  count = kindCount (t .facts) (t .steps) (t .jobs) k
-
-  pub name-past : (s r : List ℕ) (c : ℕ) → c ≡ count → c ≤ i → r ≡ take 0 (drop 0 s) → r ≡ shown s (namePart (namesFrom t) k i)
-  name-past s r c e h q = q ∙ sym (ap (shown s) (ap (λ (l : List Part). getD l i noPart) (kind-parts t k) ∙ getD-map-past (partFrom t) first count i noPart (omega arith)))
-
-  pub name-in : (s r : List ℕ) (a c x y : ℕ) → a ≡ first → c ≡ count → i < c → x ≡ getD (t .starts) (a + i) 0 → y ≡ getD (t .lengths) (a + i) 0 → r ≡ take y (drop x s)
-      → r ≡ shown s (namePart (namesFrom t) k i)
-  name-in s r a c x y d e h p q w =
-      w ∙ ap₂ (λ (m n : ℕ). take n (drop m s)) (p ∙ ap (λ (j : ℕ). getD (t .starts) (j + i) 0) d) (q ∙ ap (λ (j : ℕ). getD (t .lengths) (j + i) 0) d)
-      ∙ sym (ap (shown s) (ap (λ (l : List Part). getD l i noPart) (kind-parts t k) ∙ getD-map-from (partFrom t) first count i noPart (omega arith)))
-
--- the code's kinds
-range-small : (k : Kind) (f st j : ℕ) → f < 256 → st < 256 → j < 256 → (kindStart f st k < 512) × (kindCount f st j k < 512)
-range-small fact f st j a b c = (omega arith, omega arith)
-range-small stepKind f st j a b c = (omega arith, omega arith)
-range-small jobKind f st j a b c = (omega arith, omega arith)
-range-small task f st j a b c = (omega arith, omega arith)
-
-pub range-told : (v k : KindWanted) (f st j : ℕ) → k ≡ v → f < 256 → st < 256 → j < 256
-    → (kindStart f st (kindOf v) ≡ kindStart f st (kindOf k)) × (kindCount f st j (kindOf v) ≡ kindCount f st j (kindOf k)) × (kindStart f st (kindOf v) < 512) × (kindCount f st j (kindOf v) < 512)
-range-told v k f st j e a b c = let s = range-small (kindOf v) f st j a b c in rw e (refl, refl, s .0, s .1)
+-- the names of a kind: n of them from place k on
+pub name-told : (f : ℕ → Part) (k k′ n i : ℕ) (s r : List ℕ) → k ≡ k′ → r ≡ shown s (cond (ltb i n) (f (k + i)) noPart) → r ≡ shown s (getD (map f (from k′ n)) i noPart)
+name-told f k k′ n i s r e q =
+    let same : cond (ltb i n) (f (k + i)) noPart ≡ getD (map f (from k′ n)) i noPart = ⊎-elim
+    (λ h. rw (le-ltb i n h) (sym (getD-map-past f k′ n i noPart h)))
+    (λ h. rw (lt-ltb i n h, e) (sym (getD-map-from f k′ n i noPart h)))
+    (le-or-lt n i) in
+    q ∙ ap (shown s) same

@@ -10,31 +10,28 @@ use Rattle.lists.specs.List.{from}
 use Rattle.lists.proofs.Place.{map-from}
 use Rattle.lines.specs.Parts.{Piece, noLine, linesOf, linesFrom}
 use Rattle.outline.specs.Sections.{Sections, sections}
-use Rattle.outline.specs.Part.{Part, partOf, Names, namesAt}
+use Rattle.outline.specs.Part.{partOf, Names, namesAt}
 use Rattle.outline.specs.Index.{Indexed}
 use Rattle.outline.proofs.Questions.{lines-facts, lines-jobs}
-
--- the part at place i of two lists of numbers
-abbrev part : List ℕ → List ℕ → ℕ → Part
-part starts sizes i = record { start = getD starts i 0; size = getD sizes i 0 }
+use Rattle.table.specs.Layout.{partWith}
 
 module _ {s : List ℕ} {f st j : ℕ} {starts sizes : List ℕ} (u : Indexed s f st j starts sizes) where
   abbrev p : Sections
   p = sections (linesOf s)
 
-  held : (i : ℕ) → i < f + st + j → part starts sizes i ≡ partOf (getD (linesFrom s 0) i noLine)
+  held : (i : ℕ) → i < f + st + j → partWith starts sizes i ≡ partOf (getD (linesFrom s 0) i noLine)
   held i h = let e = u .held .at i h in λ k. record { start = e .start k; size = e .size k }
 
   -- lines that stand from place k on
   section : (k n : ℕ) (before ls after : List Piece) → linesFrom s 0 ≡ before ++ (ls ++ after) → k ≡ length before → n ≡ length ls → k + n ≤ f + st + j
-      → map (part starts sizes) (from k n) ≡ map partOf ls
-  section k n before ls after e d c h = map-from (part starts sizes) partOf noLine k n ls c (λ i l.
+      → map (partWith starts sizes) (from k n) ≡ map partOf ls
+  section k n before ls after e d c h = map-from (partWith starts sizes) partOf noLine k n ls c (λ i l.
       held (k + i) (omega (arith, c))
       ∙ ap partOf (ap (λ (m : List Piece). getD m (k + i) noLine) e ∙ ap (λ (m : ℕ). getD (before ++ (ls ++ after)) (m + i) noLine) d
       ∙ getD-append-add before (ls ++ after) i noLine ∙ List·getD-append ls after noLine i l))
 
   pub names-held : _≡_ {A = Names}
-      (record { facts = map (part starts sizes) (from 0 f); steps = map (part starts sizes) (from f st); jobs = map (part starts sizes) (from (f + st) j) })
+      (record { facts = map (partWith starts sizes) (from 0 f); steps = map (partWith starts sizes) (from f st); jobs = map (partWith starts sizes) (from (f + st) j) })
       (namesAt p)
   unfolding namesAt
   names-held =

@@ -1,6 +1,6 @@
 -- The steps and the methods: the code's words and numbers mean what the lines are read as.
 -- Line by line, and task by task in a body.
-use Rattle.planning.specs.Table.{Step, Method} 
+use Rattle.planning.specs.Table.{Step, Method}
 use mathlib.Core.Path.{_≡_, sym, ap, _∙_}
 use mathlib.Core.Bool.{Bool, true}
 use mathlib.Core.List.{List, [], _∷_, map}
@@ -37,7 +37,7 @@ method-read : (p : Sections) (l : List ℕ) (bodies : List ℕ) (i steps owner s
 unfolding readMethod declared
 method-read p l bodies i steps owner size e d c h =
     let b = map-upTo (λ j. taskAt steps (getD bodies (i * 8 + j) 0)) (taskOf (declared p step) (declared p job)) [] size (bodyIn l) c
-        (λ j k. ap (taskAt steps) (h j k) ∙ rw (← e) (sym (task-found (declared p step) (declared p job) (getD (bodyIn l) j [])))) in
+    (λ j k. ap (taskAt steps) (h j k) ∙ rw (← e) (sym (task-found (declared p step) (declared p job) (getD (bodyIn l) j [])))) in
     λ z. record { of = d z; body = b z }
 
 pub methods-read : (p : Sections) (ls : List Piece) (owners sizes bodies : List ℕ) (ok : Bool) (steps n : ℕ) → length (declared p step) ≡ steps → n ≡ length ls

@@ -117,9 +117,9 @@ module _ {s : List ℕ} {o : Outline} (u : Outlined s o) where
           let p = sections (linesOf s) in
           let d₁ : q ≡ cond (met7 p) 0 7 = d ∙ ap (λ (k : Bool). cond k 0 7) seven in
           let found : (k : Bool) → met7 p ≡ k → readingOf (record { question = q; table = t }) ≡ readingOf (record { question = cond k 0 7; table = tableWith (o .shape) (o .names) x m e })
-              = λ k y. ap₂ (λ (n : ℕ) (r : ReadTable). answer n (tableFrom r) (namesFrom r)) (d₁ ∙ ap (λ (j : Bool). cond j 0 7) y) w in
+          = λ k y. ap₂ (λ (n : ℕ) (r : ReadTable). answer n (tableFrom r) (namesFrom r)) (d₁ ∙ ap (λ (j : Bool). cond j 0 7) y) w in
           let asked : (k : Bool) → met7 p ≡ k → answer (cond k 0 7) (readTable p) (namesAt p) ≡ reading s
-              = λ k y. sym (ap (λ (n : ℕ). answer n (readTable p) (namesAt p)) (asked7 ∙ ap (λ (j : Bool). cond j 0 7) y)) in
+          = λ k y. sym (ap (λ (n : ℕ). answer n (readTable p) (namesAt p)) (asked7 ∙ ap (λ (j : Bool). cond j 0 7) y)) in
           ⊎-elim
           (λ y. found true y ∙ ap₂ accepted (read-table y) (names-held (ready .indexed)) ∙ asked true y)
           (λ n. found false n ∙ asked false n)

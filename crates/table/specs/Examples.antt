@@ -1,7 +1,7 @@
 -- The files of the ten marked tables, and the edges: "Marked tables (*) and edges". The statements alone; proofs/Computed.antt proves
 -- them by computing each reading.
 -- Assumes nothing.
-use Rattle.outline.specs.Part.{Names} 
+use Rattle.outline.specs.Part.{Names}
 use mathlib.Core.Path.{_≡_}
 use mathlib.Core.List.{List, [], _∷_, _++_, map}
 use Prim.Native.Nat.{ℕ, _+_, _/_, _%_}

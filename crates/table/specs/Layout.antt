@@ -1,7 +1,7 @@
 -- What the code's table means: the table of `planning` that it holds, and where its names stand.
 -- Assumes nothing.
 use mathlib.Core.Bool.{cond}
-use mathlib.Core.List.{List, [], _∷_, _++_, map}
+use mathlib.Core.List.{List, [], _∷_, map}
 use mathlib.Core.Option.{Option, none, some}
 use Prim.Native.Nat.{ℕ, _+_, _-_, _*_}
 use lib.Dec.{ltb}
@@ -9,7 +9,6 @@ use lib.ListN.{getD}
 use Rattle.lists.specs.List.{from, upTo}
 use Rattle.bitset.specs.Set.{membersBelow}
 use Rattle.planning.specs.Table.{Task as PlanningTask, step, job, Step, Method, Table}
-use Rattle.outline.specs.Names.{Kind, fact, step as stepKind, job as jobKind, task}
 use Rattle.outline.specs.Part.{Part, Names}
 use Rattle.outline.specs.declared.Shape.{Shape}
 use Rattle.outline.specs.declared.Spans.{Spans}
@@ -52,15 +51,15 @@ tableFrom t = record {
   depth = t .depth;
 }
 
--- where name i stands, of the facts first, then the steps, then the jobs
-abbrev pub partFrom : ReadTable → ℕ → Part
-partFrom t i = record { start = getD (t .starts) i 0; size = getD (t .lengths) i 0 }
+-- where a name stands: the facts' names come first, then the steps', then the jobs'
+abbrev pub partWith : (starts sizes : List ℕ) → ℕ → Part
+partWith starts sizes i = record { start = getD starts i 0; size = getD sizes i 0 }
 
 abbrev pub namesFrom : ReadTable → Names
 namesFrom t = record {
-  facts = map (partFrom t) (upTo (t .facts));
-  steps = map (partFrom t) (from (t .facts) (t .steps));
-  jobs = map (partFrom t) (from (t .facts + t .steps) (t .jobs));
+  facts = map (partWith (t .starts) (t .lengths)) (upTo (t .facts));
+  steps = map (partWith (t .starts) (t .lengths)) (from (t .facts) (t .steps));
+  jobs = map (partWith (t .starts) (t .lengths)) (from (t .facts + t .steps) (t .jobs));
 }
 
 -- the table that the code puts together from a file's shape, its names and its lines
@@ -94,28 +93,6 @@ taskFrom (StepTask s) = some (step s)
 taskFrom (JobTask j) = some (job j)
 taskFrom Nothing = none
 
--- the parts of the names of a kind, by number; an empty part past the last
+-- the part of a name past the last: empty
 abbrev pub noPart : Part
 noPart = record { start = 0; size = 0 }
-
-abbrev pub partsOf : Names → Kind → List Part
-partsOf ns fact = ns .facts
-partsOf ns stepKind = ns .steps
-partsOf ns jobKind = ns .jobs
-partsOf ns task = ns .steps ++ ns .jobs
-
-abbrev pub namePart : Names → Kind → ℕ → Part
-namePart ns k i = getD (partsOf ns k) i noPart
-
--- the names of a kind among all names: where they begin, and how many they are
-abbrev pub kindStart : (facts steps : ℕ) → Kind → ℕ
-kindStart f st fact = 0
-kindStart f st stepKind = f
-kindStart f st jobKind = f + st
-kindStart f st task = f
-
-abbrev pub kindCount : (facts steps jobs : ℕ) → Kind → ℕ
-kindCount f st j fact = f
-kindCount f st j stepKind = st
-kindCount f st j jobKind = j
-kindCount f st j task = st + j

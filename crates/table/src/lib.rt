@@ -2,27 +2,26 @@
 // know a table through the calls of `Table` alone, whose contracts speak of the table of `planning` that it holds (`tableFrom`).
 ghost use mathlib.Core.Path.{_≡_};
 ghost use mathlib.Core.Bool.{cond, _&&_};
+ghost use mathlib.Core.List.{[], _∷_};
 ghost use mathlib.Core.Option.{some};
-ghost use Prim.Native.Nat.{_≤_, _<_};
+ghost use lib.Dec.{ltb};
+ghost use Prim.Native.Nat.{_+_, _*_, _≤_, _<_};
 ghost use lib.ListN.{length, getD, take, drop, getElem?};
 ghost use Rattle.bitset.specs.Set.{membersBelow};
 ghost use Rattle.planning.specs.Table.{stepOf, jobOf, bodyOf};
-ghost use Rattle.outline.specs.Outlined.{kindOf};
 ghost use Rattle.outline.specs.Part.{shown};
 ghost use Rattle.table.specs.Reading.{reading};
-ghost use Rattle.table.specs.Layout.{tableFrom, namesFrom, readingOf, taskAt, taskFrom, namePart, tableWith, kindStart, kindCount};
-
-use outline::outline_of;
+ghost use Rattle.table.specs.Layout.{tableFrom, namesFrom, readingOf, taskAt, taskFrom, tableWith, partWith, noPart};
 use outline::Shape;
 use outline::Spans;
+use outline::outline_of;
+use rows::Ends;
+pub use rows::FactSet;
+use rows::Methods;
+use rows::Steps;
 use rows::read_ends;
 use rows::read_methods;
 use rows::read_steps;
-use rows::Ends;
-use rows::Methods;
-use rows::Steps;
-pub use outline::Kind;
-pub use rows::FactSet;
 
 // A table that was read. What its fields mean stands in specs/Layout, and no other crate looks at them.
 pub struct Table {
@@ -159,6 +158,39 @@ fn place_at(a: &[usize], i: usize) -> usize
     if i < a.len() { a[i] } else { 0 }
 }
 
+// The same below n, and nothing from n on: word i as a set, and byte i.
+fn set_below(a: &[u64], n: u8, i: usize) -> FactSet
+    ensures { λ r. ⌜ r ≡ cond (ltb i n) (getD (now (a .entry)) i 0) 0 ∷ [] ⌝ }
+{
+    if i < n as usize {
+        let w = word_at(a, i);
+        return [w; 1];
+    }
+    [0; 1]
+}
+
+fn byte_below(a: &[u8], n: u8, i: usize) -> usize
+    ensures { λ r. ⌜ (r ≡ cond (ltb i n) (getD (now (a .entry)) i 0) 0) × (r < 256) ⌝ }
+{
+    if i < n as usize {
+        return byte_at(a, i) as usize;
+    }
+    0
+}
+
+// Byte j of the eight of method m, below n methods.
+fn body_byte(a: &[u8], n: u8, m: usize, j: usize) -> u8
+    ensures { λ r. ⌜ r ≡ cond (ltb m n && ltb j 256) (getD (now (a .entry)) (m * 8 + j) 0) 0 ⌝ }
+{
+    if m >= n as usize {
+        return 0;
+    }
+    if j >= 256 {
+        return 0;
+    }
+    byte_at(a, m * 8 + j)
+}
+
 // The part of s from the place start on, with so many bytes, as far as s has them.
 fn part<'a>(s: &'a [u8], start: usize, size: usize) -> &'a [u8]
     ensures { λ r. ⌜ now r ≡ take size (drop start (now (s .entry))) ⌝ }
@@ -174,25 +206,23 @@ fn part<'a>(s: &'a [u8], start: usize, size: usize) -> &'a [u8]
     &s[start..e]
 }
 
-// Some of the names: the place of the first, and how many they are.
-pub struct Range {
-    start: usize,
-    count: usize,
-}
-
-// The names of a kind.
-fn names_of(facts: u8, steps: u8, jobs: u8, kind: Kind) -> Range
-    ensures { λ r. ⌜ (r .start ≡ kindStart facts steps (kindOf kind)) × (r .count ≡ kindCount facts steps jobs (kindOf kind)) × (r .start < 512) × (r .count < 512) ⌝ }
+// Name i of n, of those that stand after a and b others: the part of the file where it was declared.
+fn name_at<'a, 'b>(
+    file: &'a [u8],
+    starts: &'b [usize],
+    lengths: &'b [usize],
+    a: u8,
+    b: u8,
+    n: u8,
+    i: usize,
+) -> &'a [u8]
+    ensures { λ r. ⌜ now r ≡ shown (now (file .entry)) (cond (ltb i n) (partWith (now (starts .entry)) (now (lengths .entry)) (a + b + i)) noPart) ⌝ }
 {
-    let f = facts as usize;
-    let s = steps as usize;
-    let j = jobs as usize;
-    match kind {
-        Kind::Fact => Range { start: 0, count: f },
-        Kind::Step => Range { start: f, count: s },
-        Kind::Job => Range { start: f + s, count: j },
-        Kind::Task => Range { start: f, count: s + j },
+    if i >= n as usize {
+        return part(file, 0, 0);
     }
+    let j = a as usize + b as usize + i;
+    part(file, place_at(starts, j), place_at(lengths, j))
 }
 
 // A task of a body: a step or a job by its number, or nothing where the body has no such place.
@@ -262,74 +292,80 @@ impl Table {
     pub fn needs(self, i: usize) -> FactSet
         ensures { λ r. ⌜ membersBelow r ((tableFrom self) .facts) ≡ (stepOf (tableFrom self) i) .needs ⌝ }
     {
-        if i >= self.steps as usize {
-            return [0; 1];
-        }
-        let w = word_at(&self.needs, i);
-        [w; 1]
+        set_below(&self.needs, self.steps, i)
     }
 
     pub fn sets(self, i: usize) -> FactSet
         ensures { λ r. ⌜ membersBelow r ((tableFrom self) .facts) ≡ (stepOf (tableFrom self) i) .sets ⌝ }
     {
-        if i >= self.steps as usize {
-            return [0; 1];
-        }
-        let w = word_at(&self.sets, i);
-        [w; 1]
+        set_below(&self.sets, self.steps, i)
     }
 
     pub fn clears(self, i: usize) -> FactSet
         ensures { λ r. ⌜ membersBelow r ((tableFrom self) .facts) ≡ (stepOf (tableFrom self) i) .clears ⌝ }
     {
-        if i >= self.steps as usize {
-            return [0; 1];
-        }
-        let w = word_at(&self.clears, i);
-        [w; 1]
+        set_below(&self.clears, self.steps, i)
     }
 
     // The job of method m, and how many tasks its body has; 0 where there is no such method.
     pub fn job_of(self, m: usize) -> usize
         ensures { λ r. ⌜ r ≡ jobOf (tableFrom self) m ⌝ }
     {
-        if m >= self.methods as usize {
-            return 0;
-        }
-        byte_at(&self.owners, m) as usize
+        byte_below(&self.owners, self.methods, m)
     }
 
     pub fn body_size(self, m: usize) -> usize
         ensures { λ r. ⌜ r ≡ length (bodyOf (tableFrom self) m) ⌝ }
     {
-        if m >= self.methods as usize {
-            return 0;
-        }
-        byte_at(&self.sizes, m) as usize
+        byte_below(&self.sizes, self.methods, m)
     }
 
-    // Task j of the body of method m.
-    pub fn task(self, m: usize, j: usize) -> Task
-        ensures { λ r. ⌜ taskFrom r ≡ getElem? (bodyOf (tableFrom self) m) j ⌝ }
+    // A task of a method's body, by its place there.
+    pub fn task(self, method: usize, place: usize) -> Task
+        ensures { λ r. ⌜ taskFrom r ≡ getElem? (bodyOf (tableFrom self) method) place ⌝ }
     {
-        if m >= self.methods as usize {
+        let n = byte_below(&self.sizes, self.methods, method);
+        if place >= n {
             return Task::Nothing;
         }
-        if j >= byte_at(&self.sizes, m) as usize {
-            return Task::Nothing;
-        }
-        task_at(self.steps, byte_at(&self.bodies, m * 8 + j))
+        task_at(
+            self.steps,
+            body_byte(&self.bodies, self.methods, method, place),
+        )
     }
 
-    // Name i of a kind: the part of the table's file where it was declared; empty where there is no such name.
-    pub fn name<'a>(self, file: &'a [u8], kind: Kind, i: usize) -> &'a [u8]
-        ensures { λ r. ⌜ now r ≡ shown (now (file .entry)) (namePart (namesFrom self) (kindOf kind) i) ⌝ }
+    // The names of fact, step and job i: the part of the table's file where each was declared; empty where there is none.
+    pub fn fact_name<'a>(self, file: &'a [u8], i: usize) -> &'a [u8]
+        ensures { λ r. ⌜ now r ≡ shown (now (file .entry)) (getD ((namesFrom self) .facts) i noPart) ⌝ }
     {
-        let k = names_of(self.facts, self.steps, self.jobs, kind);
-        if i >= k.count {
-            return part(file, 0, 0);
-        }
-        let j = k.start + i;
-        part(file, place_at(&self.starts, j), place_at(&self.lengths, j))
+        name_at(file, &self.starts, &self.lengths, 0, 0, self.facts, i)
+    }
+
+    pub fn step_name<'a>(self, file: &'a [u8], i: usize) -> &'a [u8]
+        ensures { λ r. ⌜ now r ≡ shown (now (file .entry)) (getD ((namesFrom self) .steps) i noPart) ⌝ }
+    {
+        name_at(
+            file,
+            &self.starts,
+            &self.lengths,
+            self.facts,
+            0,
+            self.steps,
+            i,
+        )
+    }
+
+    pub fn job_name<'a>(self, file: &'a [u8], i: usize) -> &'a [u8]
+        ensures { λ r. ⌜ now r ≡ shown (now (file .entry)) (getD ((namesFrom self) .jobs) i noPart) ⌝ }
+    {
+        name_at(
+            file,
+            &self.starts,
+            &self.lengths,
+            self.facts,
+            self.steps,
+            self.jobs,
+            i,
+        )
     }
 }

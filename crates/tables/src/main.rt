@@ -1,5 +1,7 @@
-// Runs stored tables through the reader. A line for each file of `index`: its name, the number of the first of questions 2
-// to 7 that is not met, or 0, and for a table that is read its counts of facts, steps, jobs and methods and its depth.
+// Runs stored tables through the reader. A line for each file of `index`: its name, the number of the first of questions 2 to 7 that is not
+// met, or 0, and for a table that is read its counts of facts, steps, jobs and methods, its depth, its root job's name and its checksum.
+mod checksum;
+
 ghost use Prim.Native.Nat.{_≤_};
 ghost use lib.ListN.{length};
 ghost use Rattle.io.specs.Counts.{Counts};
@@ -31,6 +33,13 @@ fn print_counts(t: table::Table) {
     print_field(t.depth());
 }
 
+fn print_contents(t: table::Table, file: &[u8]) {
+    io::write_all(STDOUT_FILENO, b"\t");
+    io::write_all(STDOUT_FILENO, t.job_name(file, t.root()));
+    io::write_all(STDOUT_FILENO, b"\t");
+    io::print_decimal(STDOUT_FILENO, checksum::checksum(t, file));
+}
+
 fn print_table(name: &[u8]) {
     // One byte more than a table may have, so that a longer file is seen to be too long and not cut.
     let mut file = [0u8; 65537];
@@ -40,6 +49,7 @@ fn print_table(name: &[u8]) {
     print_field(read.question);
     if read.question == 0 {
         print_counts(read.table);
+        print_contents(read.table, &file[..n]);
     }
     io::write_all(STDOUT_FILENO, b"\n");
 }

@@ -1,27 +1,15 @@
 use Rattle.table.proofs.Table.body_size.Tie as tie
 use borrow.Author.Needs.{needs}
 use Rattle.table.proofs.Table.body_size.Statement.{statement}
-use Rattle.table.proofs.Access.{size-past, size-in}
+use Rattle.table.proofs.Access.{size-told}
 
--- src/lib.rt:305:17
-cast-if1 : tie.Need-cast-if1
-cast-if1 c = search needs
+-- src/lib.rt:312:9
+byte-below-requires : tie.Need-byte-below-requires
+byte-below-requires c κs = search needs
 
--- src/lib.rt:306:13
+-- src/lib.rt:309:5
 returns : tie.Need-returns
-returns c = size-past (c .before .args .t1) _ (c .if1 .taken)
-
--- src/lib.rt:308:9
-byte-at-requires : tie.Need-byte-at-requires
-byte-at-requires c κs = search needs
-
--- src/lib.rt:308:9
-cast-result : tie.Need-cast-result
-cast-result c = search needs
-
--- src/lib.rt:302:5
-returns-2 : tie.Need-returns-2
-returns-2 c = size-in (c .before .before .before .before .before .args .t1) _ _ (c .byte-at .ensures) (c .before .before .before .before .if1 .left)
+returns c = let a = c .before .before .before .before .args in size-told (a .t1) (a .m) _ (c .byte-below .ensures .0)
 
 pub body-size-spec : {M : Type 1} → statement M
-body-size-spec = tie.close (tie.spec cast-if1 returns byte-at-requires cast-result returns-2)
+body-size-spec = tie.close (tie.spec byte-below-requires returns)

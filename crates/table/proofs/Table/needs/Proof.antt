@@ -2,23 +2,15 @@ use Rattle.table.proofs.Table.needs.Tie as tie
 use borrow.Author.Needs.{needs}
 use Rattle.table.proofs.Table.needs.Statement.{statement}
 use mathlib.Core.Path.{refl}
-use Rattle.table.proofs.Access.{set-past, set-in}
+use Rattle.table.proofs.Access.{step-set}
 
--- src/lib.rt:265:17
-cast-if1 : tie.Need-cast-if1
-cast-if1 c = search needs
+-- src/lib.rt:287:9
+set-below-requires : tie.Need-set-below-requires
+set-below-requires c κs = search needs
 
--- src/lib.rt:266:13
+-- src/lib.rt:284:5
 returns : tie.Need-returns
-returns c = set-past (c .before .args .t1) _ (λ s. s .needs) refl (c .if1 .taken)
-
--- src/lib.rt:268:13
-word-at-requires : tie.Need-word-at-requires
-word-at-requires c κs = search needs
-
--- src/lib.rt:262:5
-returns-2 : tie.Need-returns-2
-returns-2 c = set-in (c .before .before .before .before .before .args .t1) _ (λ s. s .needs) (c .before .before .before .before .before .args .t1 .needs) _ (c .word-at .ensures) refl (c .before .before .before .before .if1 .left)
+returns c = let a = c .before .before .before .before .args in step-set (a .t1) (a .i) (λ s. s .needs) (a .t1 .needs) refl refl _ (c .set-below .ensures)
 
 pub needs-spec : {M : Type 1} → statement M
-needs-spec = tie.close (tie.spec cast-if1 returns word-at-requires returns-2)
+needs-spec = tie.close (tie.spec set-below-requires returns)

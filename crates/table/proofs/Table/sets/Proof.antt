@@ -2,23 +2,15 @@ use Rattle.table.proofs.Table.sets.Tie as tie
 use borrow.Author.Needs.{needs}
 use Rattle.table.proofs.Table.sets.Statement.{statement}
 use mathlib.Core.Path.{refl}
-use Rattle.table.proofs.Access.{set-past, set-in}
+use Rattle.table.proofs.Access.{step-set}
 
--- src/lib.rt:275:17
-cast-if1 : tie.Need-cast-if1
-cast-if1 c = search needs
+-- src/lib.rt:293:9
+set-below-requires : tie.Need-set-below-requires
+set-below-requires c κs = search needs
 
--- src/lib.rt:276:13
+-- src/lib.rt:290:5
 returns : tie.Need-returns
-returns c = set-past (c .before .args .t1) _ (λ s. s .sets) refl (c .if1 .taken)
-
--- src/lib.rt:278:13
-word-at-requires : tie.Need-word-at-requires
-word-at-requires c κs = search needs
-
--- src/lib.rt:272:5
-returns-2 : tie.Need-returns-2
-returns-2 c = set-in (c .before .before .before .before .before .args .t1) _ (λ s. s .sets) (c .before .before .before .before .before .args .t1 .sets) _ (c .word-at .ensures) refl (c .before .before .before .before .if1 .left)
+returns c = let a = c .before .before .before .before .args in step-set (a .t1) (a .i) (λ s. s .sets) (a .t1 .sets) refl refl _ (c .set-below .ensures)
 
 pub sets-spec : {M : Type 1} → statement M
-sets-spec = tie.close (tie.spec cast-if1 returns word-at-requires returns-2)
+sets-spec = tie.close (tie.spec set-below-requires returns)
