@@ -1,3 +1,4 @@
+pub mod Computed
 pub mod Bytes
 pub mod Scans
 pub mod Names

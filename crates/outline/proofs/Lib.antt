@@ -1,3 +1,4 @@
+pub mod Computed
 pub mod Sections
 pub mod Names
 pub mod Questions

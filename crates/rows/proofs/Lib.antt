@@ -1,3 +1,4 @@
+pub mod Computed
 pub mod FactList
 pub mod Counts
 pub mod BodyList

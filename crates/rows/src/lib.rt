@@ -21,7 +21,7 @@ use outline::look_up;
 // A set of facts: a word for each 64 of them.
 pub type FactSet = [u64; 1];
 
-fn both(a: bool, b: bool) -> bool
+pub fn both(a: bool, b: bool) -> bool
     ensures { λ r. ⌜ r ≡ (a && b) ⌝ }
 {
     if a { b } else { false }

@@ -1,8 +1,7 @@
 -- The read as a whole: what the code answers is the reading of the file.
 -- Questions 2 to 6 first, then 7; where all are met, field by field.
 use mathlib.Core.Path.{_≡_, refl, sym, ap, ap₂, _∙_}
-use mathlib.Core.Bool.{Bool, true, false, not, cond, _&&_}
-use borrow.Author.Tests.{not-true, not-false}
+use mathlib.Core.Bool.{Bool, true, false, cond, _&&_}
 use mathlib.Core.List.{List, [], _∷_, _++_}
 use mathlib.Core.Logic.{⊎-elim}
 use Prim.Native.Nat.{ℕ, zero, suc}
@@ -125,15 +124,9 @@ module _ {s : List ℕ} {o : Outline} (u : Outlined s o) where
           (λ n. found false n ∙ asked false n)
           (bool-cases (met7 p))
 
--- the number by cases
-pub seventh-first : (a b c : Bool) → not a ≡ true → _≡_ {A = ℕ} 7 (cond (a && (b && c)) 0 7)
-seventh-first a b c n = rw (not-true a n)
+-- the number that the code gives
+pub seventh-met : (a b c : Bool) {r s : Bool} → r ≡ (a && s) → s ≡ (b && c) → r ≡ true → _≡_ {A = ℕ} 0 (cond (a && (b && c)) 0 7)
+seventh-met a b c e d y = rw (← d, ← e, y)
 
-pub seventh-second : (a b c : Bool) → not a ≡ false → not b ≡ true → _≡_ {A = ℕ} 7 (cond (a && (b && c)) 0 7)
-seventh-second a b c y n = rw (not-false a y, not-true b n)
-
-pub seventh-third : (a b c : Bool) → not a ≡ false → not b ≡ false → not c ≡ true → _≡_ {A = ℕ} 7 (cond (a && (b && c)) 0 7)
-seventh-third a b c y z n = rw (not-false a y, not-false b z, not-true c n)
-
-pub seventh-none : (a b c : Bool) → not a ≡ false → not b ≡ false → not c ≡ false → _≡_ {A = ℕ} 0 (cond (a && (b && c)) 0 7)
-seventh-none a b c y z w = rw (not-false a y, not-false b z, not-false c w)
+pub seventh-unmet : (a b c : Bool) {r s : Bool} → r ≡ (a && s) → s ≡ (b && c) → r ≡ false → _≡_ {A = ℕ} 7 (cond (a && (b && c)) 0 7)
+seventh-unmet a b c e d n = rw (← d, ← e, n)

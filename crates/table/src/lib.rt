@@ -19,6 +19,7 @@ use rows::Ends;
 pub use rows::FactSet;
 use rows::Methods;
 use rows::Steps;
+use rows::both;
 use rows::read_ends;
 use rows::read_methods;
 use rows::read_steps;
@@ -105,16 +106,7 @@ fn no_table() -> Table {
 fn seventh(a: bool, b: bool, c: bool) -> usize
     ensures { λ r. ⌜ r ≡ cond (a && (b && c)) 0 7 ⌝ }
 {
-    if !a {
-        return 7;
-    }
-    if !b {
-        return 7;
-    }
-    if !c {
-        return 7;
-    }
-    0
+    if both(a, both(b, c)) { 0 } else { 7 }
 }
 
 // Reads any bytes as a table file.
@@ -344,28 +336,15 @@ impl Table {
     pub fn step_name<'a>(self, file: &'a [u8], i: usize) -> &'a [u8]
         ensures { λ r. ⌜ now r ≡ shown (now (file .entry)) (getD ((namesFrom self) .steps) i noPart) ⌝ }
     {
-        name_at(
-            file,
-            &self.starts,
-            &self.lengths,
-            self.facts,
-            0,
-            self.steps,
-            i,
-        )
+        let f = self.facts;
+        name_at(file, &self.starts, &self.lengths, f, 0, self.steps, i)
     }
 
     pub fn job_name<'a>(self, file: &'a [u8], i: usize) -> &'a [u8]
         ensures { λ r. ⌜ now r ≡ shown (now (file .entry)) (getD ((namesFrom self) .jobs) i noPart) ⌝ }
     {
-        name_at(
-            file,
-            &self.starts,
-            &self.lengths,
-            self.facts,
-            self.steps,
-            self.jobs,
-            i,
-        )
+        let f = self.facts;
+        let s = self.steps;
+        name_at(file, &self.starts, &self.lengths, f, s, self.jobs, i)
     }
 }

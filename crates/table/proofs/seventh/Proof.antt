@@ -1,22 +1,23 @@
 use Rattle.table.proofs.seventh.Tie as tie
+use borrow.Author.Needs.{needs}
 use Rattle.table.proofs.seventh.Statement.{statement}
-use Rattle.table.proofs.Whole.{seventh-first, seventh-second, seventh-third, seventh-none}
+use Rattle.table.proofs.Whole.{seventh-met, seventh-unmet}
 
--- src/lib.rt:107:9
+-- src/lib.rt:109:16
+both-requires : tie.Need-both-requires
+both-requires c κs = search needs
+
+-- src/lib.rt:109:8
+both-requires-2 : tie.Need-both-requires-2
+both-requires-2 c κs = search needs
+
+-- src/lib.rt:106:1
 returns : tie.Need-returns
-returns c = let a = c .before .args in seventh-first (a .a) (a .b) (a .c) (c .if1 .taken)
+returns c = let a = c .before .before .before .args in seventh-met (a .a) (a .b) (a .c) (c .before .both2 .ensures) (c .before .before .both .ensures) (c .if1 .taken)
 
--- src/lib.rt:110:9
+-- src/lib.rt:106:1
 returns-2 : tie.Need-returns-2
-returns-2 c = let a = c .before .before .args in seventh-second (a .a) (a .b) (a .c) (c .before .if1 .left) (c .if2 .taken)
-
--- src/lib.rt:113:9
-returns-3 : tie.Need-returns-3
-returns-3 c = let a = c .before .before .before .args in seventh-third (a .a) (a .b) (a .c) (c .before .before .if1 .left) (c .before .if2 .left) (c .if3 .taken)
-
--- src/lib.rt:103:1
-returns-4 : tie.Need-returns-4
-returns-4 c = let a = c .before .before .before .args in seventh-none (a .a) (a .b) (a .c) (c .before .before .if1 .left) (c .before .if2 .left) (c .if3 .left)
+returns-2 c = let a = c .before .before .before .args in seventh-unmet (a .a) (a .b) (a .c) (c .before .both2 .ensures) (c .before .before .both .ensures) (c .if1 .left)
 
 pub seventh-spec : {M : Type 1} → statement M
-seventh-spec = tie.close (tie.spec returns returns-2 returns-3 returns-4)
+seventh-spec = tie.close (tie.spec both-requires both-requires-2 returns returns-2)

@@ -6,11 +6,11 @@ use Prim.Native.Nat.{_+_}
 use Rattle.table.specs.Layout.{partWith}
 use Rattle.table.proofs.Access.{name-told}
 
--- src/lib.rt:351:9
+-- src/lib.rt:348:9
 name-at-requires : tie.Need-name-at-requires
 name-at-requires c κs = search needs
 
--- src/lib.rt:348:5
+-- src/lib.rt:343:5
 returns : tie.Need-returns
 returns c = let a = c .before .before .before .before .before .before .before .args in let t = a .t1 in name-told (partWith (t .starts) (t .lengths)) (t .facts + t .steps) (t .facts + t .steps) (t .jobs) (a .i) (a .file .now) _ (omega arith) (c .name-at .ensures)
 

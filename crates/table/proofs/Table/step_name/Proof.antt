@@ -6,11 +6,11 @@ use Prim.Native.Nat.{_+_}
 use Rattle.table.specs.Layout.{partWith}
 use Rattle.table.proofs.Access.{name-told}
 
--- src/lib.rt:345:9
+-- src/lib.rt:340:9
 name-at-requires : tie.Need-name-at-requires
 name-at-requires c κs = search needs
 
--- src/lib.rt:342:5
+-- src/lib.rt:336:5
 returns : tie.Need-returns
 returns c = let a = c .before .before .before .before .before .before .before .args in let t = a .t1 in name-told (partWith (t .starts) (t .lengths)) (t .facts + 0) (t .facts) (t .steps) (a .i) (a .file .now) _ (omega arith) (c .name-at .ensures)
 
