@@ -4,5 +4,7 @@
 pub mod Bytes
 -- the parts that a byte parts, and the lines that LF ends
 pub mod Parts
--- where a part ends
+-- a part by its place
+pub mod Part
+-- inside the readers: where the part that begins at a place ends
 pub mod Cut

@@ -1,13 +1,13 @@
 -- Members by their place.
 -- By induction on the list.
 use mathlib.Core.Path.{_≡_, refl, ap, ap₂, _∙_}
-use mathlib.Core.Bool.{Bool, true}
-use mathlib.Core.List.{List, [], _∷_, _++_, map}
+use mathlib.Core.Bool.{Bool, true, false}
+use mathlib.Core.List.{List, [], _∷_, _++_, map, append-nil}
 use mathlib.Core.Option.{none, some}
-use Prim.Native.Nat.{ℕ, zero, suc, _+_, _≤_, _<_}
+use Prim.Native.Nat.{ℕ, zero, suc, _+_, _-_, _≤_, _<_}
 use native.Mathlib.Omega.{arith}
 use lib.ListN.{length, getD, getElem?}
-use Rattle.lists.specs.List.{all, from, upTo}
+use Rattle.lists.specs.List.{all, consIf, filter, from, upTo}
 use Rattle.lists.proofs.Bool.{and-l, and-r}
 
 pub getD-map-in : {A B : Type 0} (f : A → B) (xs : List A) (i : ℕ) (a : A) (b : B) → i < length xs → getD (map f xs) i b ≡ f (getD xs i a)
@@ -69,3 +69,24 @@ from-add k (suc m) n =
     let z : suc m + n ≡ suc (m + n) = omega arith in
     let y : suc k + m ≡ k + suc m = omega arith in
     ap (from k) z ∙ ap (λ (l : List ℕ). k ∷ l) (from-add (suc k) m n ∙ ap (λ (j : ℕ). from (suc k) m ++ from j n) y)
+
+-- Tests over numbers ---------------------------------------------------------------------------------------------------------
+filter-append : {A : Type 0} (p : A → Bool) (xs ys : List A) → filter p (xs ++ ys) ≡ filter p xs ++ filter p ys
+filter-append p [] ys = refl
+filter-append {A} p (x ∷ xs) ys = go (p x) (filter-append p xs ys)
+  where
+    go : (b : Bool) → filter p (xs ++ ys) ≡ filter p xs ++ filter p ys → consIf b x (filter p (xs ++ ys)) ≡ consIf b x (filter p xs) ++ filter p ys
+    go true e = ap (λ (l : List A). x ∷ l) e
+    go false e = e
+
+filter-none : (p : ℕ → Bool) (k n : ℕ) → ((i : ℕ) → k ≤ i → p i ≡ false) → filter p (from k n) ≡ []
+filter-none p k zero h = refl
+filter-none p k (suc n) h = rw (h k (omega arith)) (filter-none p (suc k) n (λ i l. h i (omega arith)))
+
+-- numbers that do not pass add nothing
+pub filter-enough : (p : ℕ → Bool) (m n : ℕ) → n ≤ m → ((i : ℕ) → n ≤ i → p i ≡ false) → filter p (upTo m) ≡ filter p (upTo n)
+filter-enough p m n h f =
+    let e : m ≡ n + (m - n) = omega arith in
+    let z : 0 + n ≡ n = omega arith in
+    ap (λ (k : ℕ). filter p (upTo k)) e ∙ ap (filter p) (from-add 0 n (m - n)) ∙ filter-append p (upTo n) (from (0 + n) (m - n))
+    ∙ ap (λ (l : List ℕ). filter p (upTo n) ++ l) (ap (λ (k : ℕ). filter p (from k (m - n))) z ∙ filter-none p n (m - n) f) ∙ append-nil (filter p (upTo n))

@@ -10,7 +10,8 @@ use Rattle.lists.specs.Text.{bytes}
 use Rattle.lines.specs.Parts.{linesOf}
 use Rattle.outline.specs.Sections.{Sections, sections}
 use Rattle.outline.specs.Questions.{met4, met6}
-use Rattle.outline.specs.Part.{namesAt, shown}
+use Rattle.outline.specs.Part.{partOf}
+use Rattle.lines.specs.Part.{bytesAt}
 use Rattle.outline.specs.Outlined.{questions2to6}
 
 abbrev of : String → Sections
@@ -55,6 +56,6 @@ unfolding questions2to6
 fifth-and-sixth = refl
 
 -- "the part of the table file where it was declared"
-pub parts : map (shown (bytes "F\topen\nF\tshut\n")) ((namesAt (of "F\topen\nF\tshut\n")) .facts) ≡ bytes "open" ∷ bytes "shut" ∷ []
-unfolding namesAt sections linesOf
+pub parts : map (λ l. bytesAt (bytes "F\topen\nF\tshut\n") (partOf l)) (linesOf (bytes "F\topen\nF\tshut\n")) ≡ bytes "open" ∷ bytes "shut" ∷ []
+unfolding partOf linesOf
 parts = refl

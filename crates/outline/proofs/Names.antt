@@ -20,7 +20,7 @@ use Rattle.lines.specs.Parts.{Piece, lineAt, linesFrom, noLine}
 use Rattle.lists.proofs.Order.{le-or-lt, ne-lt}
 use Rattle.outline.specs.Index.{Entry, Held}
 use Rattle.outline.specs.Names.{allNew, among, namesOf, numberOf}
-use Rattle.outline.specs.Part.{partOf, shown}
+use Rattle.outline.specs.Part.{partOf}
 
 module _ {s : List ℕ} {a b e : ℕ} (k : Cut tab s a b e) (h : b < length s) where
   letter-only : e ≡ b → length (field (slice a b s) 0) ≡ b - a

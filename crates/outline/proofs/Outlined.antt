@@ -16,9 +16,9 @@ use Rattle.lines.specs.Parts.{linesOf, linesFrom}
 use Rattle.grammar.specs.File.{met2, met3}
 use Rattle.outline.specs.Sections.{sections}
 use Rattle.outline.specs.Names.{namesOf, allNew}
-use Rattle.outline.specs.Questions.{short, met4, met5, met6, questions2to5}
+use Rattle.outline.specs.Questions.{withinCounts, short, met4, met5, met6, questions2to5}
 use Rattle.outline.specs.Index.{Shaped, Held}
-use Rattle.outline.specs.Outlined.{withinCounts, questions2to6, Outlined}
+use Rattle.outline.specs.Outlined.{questions2to6, Outlined}
 use Rattle.outline.specs.declared.Shape.{Shape}
 use Rattle.outline.specs.declared.Spans.{Spans}
 use Rattle.outline.proofs.Questions.{fifth, counts-small, sixth, declared-few}

@@ -22,8 +22,7 @@ use Rattle.lists.specs.Question.{firstUnmet}
 use Rattle.outline.proofs.Sections.{lead-past, parts-lines}
 use Rattle.outline.specs.Index.{Shaped}
 use Rattle.outline.specs.Names.{step, allDeclared, allNew, declared, fact, job, namesOf, task}
-use Rattle.outline.specs.Outlined.{withinCounts}
-use Rattle.outline.specs.Questions.{met4, met5, met6, questions2to5, short}
+use Rattle.outline.specs.Questions.{withinCounts, met4, met5, met6, questions2to5, short}
 use Rattle.outline.specs.Sections.{Sections, isEnd, leading, past, sections}
 
 -- Some lines that all pass a test ------------------------------------------------------------------------------------------
@@ -142,13 +141,7 @@ module _ {s : List ℕ} {f st j m atS atT atM atE : ℕ} (h : Shaped s f st j m 
 
   pub fifth : met5 (sections (linesOf s)) ≡ (withinCounts f st j m && all short (slice 0 m (linesFrom s atM)))
   unfolding met5
-  fifth = rw (h .facts, h .steps, h .jobs, method-lines, h .methods) (regroup (leb (length (p s .facts)) 64) (leb (length (p s .steps)) 64) (leb (length (p s .jobs)) 64) (leb (length (p s .methods)) 128) (all short (p s .methods)))
-    where
-      regroup : (a b c d e : Bool) → (a && (b && (c && (d && e)))) ≡ ((a && (b && (c && d))) && e)
-      regroup true true true d e = refl
-      regroup true true false d e = refl
-      regroup true false c d e = refl
-      regroup false b c d e = refl
+  fifth = rw (h .facts, h .steps, h .jobs, method-lines, h .methods)
 
   -- The first of questions 2 to 5 that is not met
   pub asked4 : met2 s ≡ true → met3 (linesOf s) ≡ true → isEnd (linesFrom s atE) ≡ false → 4 ≡ firstUnmet (questions2to5 s)

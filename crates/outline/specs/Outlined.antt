@@ -1,15 +1,14 @@
 -- What the outline of a file says, and the kinds of the code.
 -- Assumes nothing.
 use mathlib.Core.Path.{_≡_}
-use mathlib.Core.Bool.{Bool, _&&_}
+use mathlib.Core.Bool.{Bool}
 use mathlib.Core.List.{List, [], _∷_, _++_}
 use Prim.Native.Nat.{ℕ}
-use lib.Dec.{leb}
 use Rattle.lists.specs.Question.{firstUnmet}
 use Rattle.lines.specs.Parts.{linesOf}
 use Rattle.outline.specs.Sections.{sections}
 use Rattle.outline.specs.Names.{Kind, fact, step, job, task}
-use Rattle.outline.specs.Questions.{mostFacts, mostSteps, mostJobs, mostMethods, met6, questions2to5}
+use Rattle.outline.specs.Questions.{met6, questions2to5}
 use Rattle.outline.specs.Index.{Shaped, Indexed}
 use Rattle.outline.specs.declared.Kind.{Kind as KindWanted}
 use Rattle.outline.specs.declared.Kind.the-variants.{Fact, Step, Job, Task}
@@ -21,10 +20,6 @@ kindOf Fact = fact
 kindOf Step = step
 kindOf Job = job
 kindOf Task = task
-
--- question 5 of the counts of lines
-abbrev pub withinCounts : ℕ → ℕ → ℕ → ℕ → Bool
-withinCounts f st j m = leb f mostFacts && (leb st mostSteps && (leb j mostJobs && leb m mostMethods))
 
 unfoldable pub questions2to6 : List ℕ → List (ℕ × Bool)
 unfolding questions2to5 met6

@@ -6,6 +6,7 @@ use Prim.Native.Nat.{ℕ}
 use lib.Dec.{leb}
 use lib.ListN.{length}
 use Rattle.lists.specs.List.{all}
+use Rattle.planning.specs.Table.{mostFacts, mostSteps, mostJobs, mostMethods, mostInBody}
 use Rattle.lines.specs.Parts.{Piece, linesOf}
 use Rattle.grammar.specs.Line.{bodyIn}
 use Rattle.grammar.specs.File.{met2, met3}
@@ -17,23 +18,11 @@ unfoldable pub met4 : Sections → Bool
 unfolding isEnd
 met4 p = isEnd (p .ends)
 
--- "At most 64 facts, 64 steps, 64 jobs, 128 methods, 8 names in a body."
-abbrev pub mostFacts : ℕ
-mostFacts = 64
+-- "At most 64 facts, 64 steps, 64 jobs, 128 methods, 8 names in a body.": of the counts of lines
+abbrev pub withinCounts : (facts steps jobs methods : ℕ) → Bool
+withinCounts f s j m = leb f mostFacts && (leb s mostSteps && (leb j mostJobs && leb m mostMethods))
 
-abbrev pub mostSteps : ℕ
-mostSteps = 64
-
-abbrev pub mostJobs : ℕ
-mostJobs = 64
-
-abbrev pub mostMethods : ℕ
-mostMethods = 128
-
-abbrev pub mostInBody : ℕ
-mostInBody = 8
-
--- has the line a body of at most 8 names?
+-- and of the names in the body of an M line
 unfoldable pub short : Piece → Bool
 unfolding bodyIn
 short l = leb (length (bodyIn (l .bytes))) mostInBody
@@ -41,16 +30,14 @@ short l = leb (length (bodyIn (l .bytes))) mostInBody
 -- "5. Are the counts within the limits?"
 unfoldable pub met5 : Sections → Bool
 unfolding short
-met5 p =
-    leb (length (p .facts)) mostFacts && (leb (length (p .steps)) mostSteps && (leb (length (p .jobs)) mostJobs && (leb (length (p .methods)) mostMethods
-    && all short (p .methods))))
+met5 p = withinCounts (length (p .facts)) (length (p .steps)) (length (p .jobs)) (length (p .methods)) && all short (p .methods)
 
 -- "6. Is every declared name new over facts, steps and jobs together?"
 unfoldable pub met6 : Sections → Bool
 unfolding allDeclared allNew
 met6 p = allNew (allDeclared p)
 
--- "Each is put to the whole file before the next."
+-- the questions that are put before the names are looked at
 unfoldable pub questions2to5 : List ℕ → List (ℕ × Bool)
 unfolding met2 met3 met4 met5 linesOf sections
 questions2to5 s = let p = sections (linesOf s) in (2, met2 s) ∷ (3, met3 (linesOf s)) ∷ (4, met4 p) ∷ (5, met5 p) ∷ []

@@ -90,10 +90,28 @@ pub record Sound (T : Table) : Type 0 where
   pub depth : 1 ≤ T .depth
 
 -- "At most 64 facts, 64 steps, 64 jobs, 128 methods, 8 names in a body"; "depth: one digit 1 to 8"
+abbrev pub mostFacts : ℕ
+mostFacts = 64
+
+abbrev pub mostSteps : ℕ
+mostSteps = 64
+
+abbrev pub mostJobs : ℕ
+mostJobs = 64
+
+abbrev pub mostMethods : ℕ
+mostMethods = 128
+
+abbrev pub mostInBody : ℕ
+mostInBody = 8
+
+abbrev pub mostDepth : ℕ
+mostDepth = 8
+
 pub record Limits (T : Table) : Type 0 where
-  pub facts : T .facts ≤ 64
-  pub steps : length (T .steps) ≤ 64
-  pub jobs : T .jobs ≤ 64
-  pub methods : length (T .methods) ≤ 128
-  pub bodies : Every (λ (m : Method). length (m .body) ≤ 8) (T .methods)
-  pub depth : T .depth ≤ 8
+  pub facts : T .facts ≤ mostFacts
+  pub steps : length (T .steps) ≤ mostSteps
+  pub jobs : T .jobs ≤ mostJobs
+  pub methods : length (T .methods) ≤ mostMethods
+  pub bodies : Every (λ (m : Method). length (m .body) ≤ mostInBody) (T .methods)
+  pub depth : T .depth ≤ mostDepth

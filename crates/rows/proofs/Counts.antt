@@ -1,7 +1,7 @@
 -- How many names a kind declares, and that a name's number tells whether it is one of them.
 -- Each section's names are as many as its lines.
 use mathlib.Core.Path.{_≡_, sym, _∙_}
-use mathlib.Core.Bool.{Bool, true, false, cond}
+use mathlib.Core.Bool.{Bool, true, false, cond, _||_}
 use mathlib.Core.List.{List, [], _∷_}
 use mathlib.Core.Logic.{⊎-elim}
 use Prim.Native.Nat.{ℕ, suc, _+_, _≤_, _<_}
@@ -54,6 +54,15 @@ number-le (m ∷ ns) n = go (sameBytes n m) (number-le ns n)
     go : (t : Bool) → numberOf ns n ≤ length ns → cond t 0 (suc (numberOf ns n)) ≤ suc (length ns)
     go true h = omega arith
     go false h = omega arith
+
+pub number-in : (ms : List Name) (n : Name) → among ms n ≡ true → numberOf ms n < length ms
+unfolding among numberOf
+number-in [] n e = let z : _≡_ {A = ℕ} 0 1 = cc in omega arith
+number-in (m ∷ ms) n e = go (sameBytes n m) (number-in ms n) e
+  where
+    go : (b : Bool) → (among ms n ≡ true → numberOf ms n < length ms) → (b || among ms n) ≡ true → cond b 0 (suc (numberOf ms n)) < suc (length ms)
+    go true ih e = omega arith
+    go false ih e = omega (arith, ih e)
 
 -- the test that the code makes
 pub among-is : (ns : List Name) (n : Name) (k c : ℕ) → k ≡ numberOf ns n → length ns ≡ c → ltb k c ≡ among ns n

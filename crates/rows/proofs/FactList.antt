@@ -3,15 +3,15 @@
 use mathlib.Core.Path.{_≡_, refl, sym, ap, _∙_}
 use mathlib.Core.Bool.{Bool, true, false, not, _&&_, _||_}
 use mathlib.Core.List.{List, [], _∷_, map}
-use Prim.Native.Nat.{ℕ, zero, suc, _+_, _/_, _%_, _≤_, _<_}
+use Prim.Native.Nat.{ℕ, zero, suc, _+_, _/_, _%_, _≤_, _<_, _*_}
 use native.Mathlib.Omega.{arith}
 use lib.Dec.{eqb}
 use lib.ListN.{length, getD}
 use lib.Seq.{slice}
 use borrow.Author.Tests.{lt-ltb, eq-eqb, ne-eqb, eqb-true}
-use Rattle.lists.specs.List.{all, has, upTo, noneTwice}
-use Rattle.lists.proofs.Bool.{and-on, or-off, clash}
-use Rattle.lists.proofs.Member.{filter-same}
+use Rattle.lists.specs.List.{all, has, upTo, noneTwice, filter}
+use Rattle.lists.proofs.Bool.{and-on, or-off, clash, and-l}
+use Rattle.lists.proofs.Member.{filter-same, has-not, in-map-out, all-out}
 use Rattle.lists.proofs.Order.{ne-lt}
 use Rattle.bitset.specs.Set.{digit, contains, inserted}
 use Rattle.bitset.proofs.Digits.{digit-none}
@@ -25,6 +25,8 @@ use Rattle.outline.specs.Names.{among, numberOf}
 use Rattle.outline.proofs.Names.{among-in, among-out}
 use Rattle.rows.specs.Uses.{isFacts, factsOf}
 use Rattle.rows.specs.Answers.{FactsMean}
+use Rattle.lists.proofs.Place.{filter-enough}
+use Rattle.rows.proofs.Counts.{number-in}
 
 -- the names are facts, none of them twice and none of them among ds
 unfoldable pub okFrom : List Name → List ℕ → List Name → Bool
@@ -136,13 +138,26 @@ module _ {fs every ms : List Name} {m : Name} {ws : List ℕ} (u : Adding fs eve
       or-comm false true = refl
       or-comm false false = refl
 
-pub adding-done : {fs every : List Name} {ws : List ℕ} → Adding fs every [] ws → FactsMean fs every true ws
+-- no number of a declared fact lies at or past their count
+past-none : (fs every : List Name) → isFacts fs every ≡ true → (k : ℕ) → length fs ≤ k → has (map (numberOf fs) every) k ≡ false
+unfolding isFacts
+past-none fs every e k h = has-not (map (numberOf fs) every) k (λ i.
+    let r = in-map-out (numberOf fs) k every i in
+    let a = all-out (among fs) every (and-l (all (among fs) every) (noneTwice eqb (map (numberOf fs) every)) e) (r .0) (r .1) in
+    let l = number-in fs (r .0) a in
+    omega (arith, r .2))
+
+pub adding-done : {fs every : List Name} {ws : List ℕ} → length fs ≤ 64 → Adding fs every [] ws → FactsMean fs every true ws
 unfolding okFrom factsOf
-adding-done {fs} {every} {ws} u = record {
-  told = u .told;
-  set = λ e. filter-same (contains ws) (has (map (numberOf fs) every)) (upTo (length fs)) (λ k i. u .word k ∙ sym (or-off (has (u .done) k)) ∙ u .sum k);
-  wide = u .wide;
-}
+adding-done {fs} {every} {ws} l u =
+    let p = has (map (numberOf fs) every) in
+    let w : 64 * length ws ≡ 64 = omega (arith, u .wide) in
+    record {
+      told = u .told;
+      set = λ e. filter-same (contains ws) p (upTo (64 * length ws)) (λ k i. u .word k ∙ sym (or-off (has (u .done) k)) ∙ u .sum k)
+          ∙ ap (λ (n : ℕ). filter p (upTo n)) w ∙ filter-enough p 64 (length fs) l (past-none fs every e);
+      wide = u .wide;
+    }
 
 pub facts-off : {fs every : List Name} {ws : List ℕ} → length ws ≡ 1 → false ≡ isFacts fs every → FactsMean fs every false ws
 facts-off w e = record { told = e; set = λ t. clash t (sym e); wide = w }
@@ -172,7 +187,7 @@ module _ {fs : List Name} {s : List ℕ} {a b i e k : ℕ} {ws : List ℕ} (u : 
       pub listing-last : e ≡ b → FactsMean fs (split comma (slice a b s)) true (inserted ws k)
       listing-last y =
           let z : Adding fs (split comma (slice a b s)) (slice i e s ∷ []) ws = rw (y, ← cut-last c h y) (u .adding) in
-          rw q (adding-done (adding-more z (omega arith) m (rw (← q) t)))
+          rw q (adding-done m (adding-more z (omega arith) m (rw (← q) t)))
 
       pub listing-more : (e ≡ b → ⊥) → Listing fs s a b (e + 1) (inserted ws k)
       listing-more n =
@@ -184,9 +199,9 @@ module _ {fs : List Name} {s : List ℕ} {a b i e k : ℕ} {ws : List ℕ} (u : 
           }
 
 -- a list of names is the lone hyphen or what commas part
-pub names-hyphen : (fs : List Name) (f : List ℕ) (r : Bool) → r ≡ isHyphen f → r ≡ true → FactsMean fs (namesIn f) true (0 ∷ [])
+pub names-hyphen : (fs : List Name) (f : List ℕ) (r : Bool) → length fs ≤ 64 → r ≡ isHyphen f → r ≡ true → FactsMean fs (namesIn f) true (0 ∷ [])
 unfolding namesIn
-names-hyphen fs f r e y = rw (← e, y) (adding-done (adding-first fs []))
+names-hyphen fs f r l e y = rw (← e, y) (adding-done l (adding-first fs []))
 
 pub names-parts : {fs : List Name} {ok : Bool} {ws : List ℕ} (f : List ℕ) (r : Bool) → r ≡ isHyphen f → r ≡ false → FactsMean fs (split comma f) ok ws → FactsMean fs (namesIn f) ok ws
 unfolding namesIn

@@ -46,7 +46,7 @@ pub record Stepping (fs : List Name) (ls : List Piece) (ok : Bool) (xs ys zs : L
   pub telling : Telling (uses fs) ls ok i
   pub wide : (length xs ≡ 64) × (length ys ≡ 64) × (length zs ≡ 64)
   pub at : (j : ℕ) → j < i → uses fs (getD ls j noLine) ≡ true
-      → stepWith (length fs) (getD xs j 0 ∷ []) (getD ys j 0 ∷ []) (getD zs j 0 ∷ []) ≡ readStep fs ((getD ls j noLine) .bytes)
+      → stepWith (getD xs j 0 ∷ []) (getD ys j 0 ∷ []) (getD zs j 0 ∷ []) ≡ readStep fs ((getD ls j noLine) .bytes)
 
 pub stepping-first : (fs : List Name) (ls : List Piece) {xs ys zs : List ℕ} → length xs ≡ 64 → length ys ≡ 64 → length zs ≡ 64 → Stepping fs ls true xs ys zs 0
 stepping-first fs ls a b c = record { telling = telling-first (uses fs) ls; wide = (a, b, c); at = λ j h. absurd (omega arith) }
@@ -65,21 +65,20 @@ module _ {fs : List Name} {ls : List Piece} {ok : Bool} {xs ys zs : List ℕ} {i
     at = λ j k. go j k (le-or-lt i j);
   }
     where
+      stored-word : (ws w : List ℕ) → length ws ≡ 64 → length w ≡ 1 → getD (set ws i (getD w 0 0)) i 0 ∷ [] ≡ w
+      stored-word ws w l k = ap (λ (v : ℕ). v ∷ []) (getD-set-same ws i (getD w 0 0) 0 (omega (arith, l))) ∙ one-word w k
+
+      same-step : {a b c a′ b′ c′ : List ℕ} → a ≡ a′ → b ≡ b′ → c ≡ c′ → stepWith a b c ≡ stepWith a′ b′ c′
+      same-step p q r = λ k. stepWith (p k) (q k) (r k)
+
       go : (j : ℕ) → j < i + 1 → (i ≤ j) ⊎ (j < i) → uses fs (getD ls j noLine) ≡ true
-          → stepWith (length fs) (getD (set xs i (getD x 0 0)) j 0 ∷ []) (getD (set ys i (getD y 0 0)) j 0 ∷ []) (getD (set zs i (getD z 0 0)) j 0 ∷ []) ≡ readStep fs ((getD ls j noLine) .bytes)
+          → stepWith (getD (set xs i (getD x 0 0)) j 0 ∷ []) (getD (set ys i (getD y 0 0)) j 0 ∷ []) (getD (set zs i (getD z 0 0)) j 0 ∷ []) ≡ readStep fs ((getD ls j noLine) .bytes)
       go j k (inl n) o =
           let q : j ≡ i = omega arith in
-          rw (
-            q,
-            getD-set-same xs i (getD x 0 0) 0 (omega (arith, u .wide .0)),
-            getD-set-same ys i (getD y 0 0) 0 (omega (arith, u .wide .1)),
-            getD-set-same zs i (getD z 0 0) 0 (omega (arith, u .wide .2)),
-            one-word x (m .wide .0),
-            one-word y (m .wide .1),
-            one-word z (m .wide .2),
-            ← e,
-          )
-          (m .step (rw (e, ← q) o))
+          let a = stored-word xs x (u .wide .0) (m .wide .0) in
+          let b = stored-word ys y (u .wide .1) (m .wide .1) in
+          let c = stored-word zs z (u .wide .2) (m .wide .2) in
+          rw q (same-step a b c ∙ m .step (rw (e, ← q) o) ∙ ap (λ (p : Piece). readStep fs (p .bytes)) e)
       go j k (inr n) o =
           rw (getD-set-other xs i j (getD x 0 0) 0 (λ q. omega arith), getD-set-other ys i j (getD y 0 0) 0 (λ q. omega arith), getD-set-other zs i j (getD z 0 0) 0 (λ q. omega arith)) (u .at j n o)
 

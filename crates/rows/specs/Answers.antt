@@ -6,7 +6,7 @@ use mathlib.Core.List.{List, [], _∷_, map}
 use Prim.Native.Nat.{ℕ, _+_, _*_, _≤_, _<_, suc}
 use lib.ListN.{length, getD, set}
 use Rattle.lists.specs.List.{all}
-use Rattle.bitset.specs.Set.{membersBelow}
+use Rattle.bitset.specs.Set.{members}
 use Rattle.planning.specs.Table.{Step}
 use Rattle.lines.specs.Parts.{Piece, linesOf, noLine}
 use Rattle.grammar.specs.Name.{Name}
@@ -33,24 +33,24 @@ pub record Ready (s : List ℕ) (h : Shape) (starts sizes : List ℕ) : Type 0 w
 -- a list of facts: is question 7 met, and if so the set
 pub record FactsMean (facts ns : List Name) (ok : Bool) (ws : List ℕ) : Type 0 where
   pub told : ok ≡ isFacts facts ns
-  pub set : isFacts facts ns ≡ true → membersBelow ws (length facts) ≡ factsOf facts ns
+  pub set : isFacts facts ns ≡ true → members ws ≡ factsOf facts ns
   pub wide : length ws ≡ 1
 
--- the step that three sets of facts are, for n facts
-abbrev pub stepWith : ℕ → List ℕ → List ℕ → List ℕ → Step
-stepWith n x y z = record { needs = membersBelow x n; sets = membersBelow y n; clears = membersBelow z n }
+-- the step that three sets of facts are
+abbrev pub stepWith : List ℕ → List ℕ → List ℕ → Step
+stepWith x y z = record { needs = members x; sets = members y; clears = members z }
 
 -- an S line
 pub record StepMeans (facts : List Name) (l : List ℕ) (ok : Bool) (x y z : List ℕ) : Type 0 where
   pub told : ok ≡ usesFacts facts l
-  pub step : usesFacts facts l ≡ true → stepWith (length facts) x y z ≡ readStep facts l
+  pub step : usesFacts facts l ≡ true → stepWith x y z ≡ readStep facts l
   pub wide : (length x ≡ 1) × (length y ≡ 1) × (length z ≡ 1)
 
 -- some S lines, with a word for each set of each line
 pub record StepsMean (facts : List Name) (ls : List Piece) (ok : Bool) (xs ys zs : List ℕ) : Type 0 where
   pub told : ok ≡ all (λ l. usesFacts facts (l .bytes)) ls
   pub at : (i : ℕ) → i < length ls → usesFacts facts ((getD ls i noLine) .bytes) ≡ true
-      → stepWith (length facts) (getD xs i 0 ∷ []) (getD ys i 0 ∷ []) (getD zs i 0 ∷ []) ≡ readStep facts ((getD ls i noLine) .bytes)
+      → stepWith (getD xs i 0 ∷ []) (getD ys i 0 ∷ []) (getD zs i 0 ∷ []) ≡ readStep facts ((getD ls i noLine) .bytes)
 
 -- l with xs stored from the place k on
 abbrev pub stored : List ℕ → ℕ → List ℕ → List ℕ
@@ -81,6 +81,6 @@ pub record MethodsMean (jobs tasks : List Name) (ls : List Piece) (ok : Bool) (o
 -- the I line and the R line
 pub record EndsMean (p : Sections) (ok : Bool) (ws : List ℕ) (j k : ℕ) : Type 0 where
   pub told : ok ≡ (isFacts (declared p fact) (startIn (startLine p)) && among (declared p job) (nameIn (rootLine p)))
-  pub set : isFacts (declared p fact) (startIn (startLine p)) ≡ true → membersBelow ws (length (declared p fact)) ≡ factsOf (declared p fact) (startIn (startLine p))
+  pub set : isFacts (declared p fact) (startIn (startLine p)) ≡ true → members ws ≡ factsOf (declared p fact) (startIn (startLine p))
   pub root : j ≡ numberOf (declared p job) (nameIn (rootLine p))
   pub depth : k ≡ depthIn (rootLine p)

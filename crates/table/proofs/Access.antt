@@ -1,25 +1,24 @@
 -- The calls of a table: what each says of the table that it holds.
 -- A number below the count has its entry; past it there is nothing.
 use mathlib.Core.Path.{_≡_, refl, sym, ap, ap₂, _∙_}
-use mathlib.Core.Bool.{false, cond, _&&_}
+use mathlib.Core.Bool.{cond, _&&_}
 use mathlib.Core.Logic.{⊎-elim}
 use mathlib.Core.List.{List, [], _∷_, map}
 use mathlib.Core.Option.{Option, none, some}
-use Prim.Native.Nat.{ℕ, zero, suc, _+_, _-_, _*_, _/_, _%_, _≤_, _<_}
+use Prim.Native.Nat.{ℕ, zero, suc, _+_, _-_, _*_, _≤_, _<_}
 use native.Mathlib.Omega.{arith}
-use lib.Dec.{eqb, ltb}
+use lib.Dec.{ltb}
 use lib.ListN.{length, getD, getElem?, take, drop, length-map, length-drop, List·getD-eq-default, drop-of-length-le}
 use lib.Seq.{take-all, take-nil, drop-length}
 use borrow.Author.Tests.{lt-ltb, le-ltb}
-use Rattle.lists.specs.List.{from, upTo, filter}
+use Rattle.lists.specs.List.{from, upTo}
 use Rattle.lists.proofs.Number.{length-from}
 use Rattle.lists.proofs.Order.{le-or-lt}
 use Rattle.lists.proofs.Place.{getD-map-from, getD-map-past, elem-map-from}
-use Rattle.bitset.specs.Set.{digit, contains, membersBelow}
-use Rattle.bitset.proofs.Digits.{digit-none}
+use Rattle.bitset.specs.Set.{members}
 use Rattle.planning.specs.Table.{Step, Method, noStep, noMethod, stepOf, jobOf, bodyOf, Task as PlanningTask}
-use Rattle.outline.specs.Part.{Part, shown}
-use Rattle.table.specs.Layout.{taskAt, stepFrom, methodFrom, tableFrom, partWith, noPart, taskFrom}
+use Rattle.lines.specs.Part.{Part, bytesAt}
+use Rattle.table.specs.Layout.{taskAt, stepFrom, methodFrom, tableFrom, partWith, namePartsFrom, noPart, taskFrom}
 use Rattle.table.specs.declared.Table.{Table}
 use Rattle.table.specs.declared.Task.the-variants.{Step as StepTask, Job as JobTask, Nothing}
 
@@ -55,46 +54,70 @@ module _ (a : List ℕ) (n m j : ℕ) where
   body-there h k e = e ∙ rw (lt-ltb m n h, lt-ltb j 256 k)
 
 -- Steps ----------------------------------------------------------------------------------------------------------------------
-empty-set : (n : ℕ) → membersBelow (0 ∷ []) n ≡ []
-empty-set n = none-of (upTo n)
-  where
-    digit-off : (i k : ℕ) → eqb (digit (getD (0 ∷ []) i 0) k) 1 ≡ false
-    digit-off zero k = rw (digit-none k)
-    digit-off (suc i) k = rw (digit-none k)
-
-    none-of : (is : List ℕ) → filter (contains (0 ∷ [])) is ≡ []
-    none-of [] = refl
-    none-of (i ∷ is) = rw (digit-off (i / 64) (i % 64)) (none-of is)
+empty-set : members (0 ∷ []) ≡ []
+empty-set = refl
 
 module _ (t : Table) where
   pub count-steps : t .steps ≡ length ((tableFrom t) .steps)
+  unfolding tableFrom
   count-steps = sym (length-map (upTo (t .steps)) (stepFrom t) ∙ length-from 0 (t .steps))
 
   pub count-methods : t .methods ≡ length ((tableFrom t) .methods)
+  unfolding tableFrom
   count-methods = sym (length-map (upTo (t .methods)) (methodFrom t) ∙ length-from 0 (t .methods))
 
   module _ (i : ℕ) where
     step-in : i < t .steps → stepFrom t i ≡ stepOf (tableFrom t) i
+    unfolding tableFrom
     step-in h = let z : 0 + i ≡ i = omega arith in sym (getD-map-from (stepFrom t) 0 (t .steps) i noStep h ∙ ap (stepFrom t) z)
 
     step-past : t .steps ≤ i → stepOf (tableFrom t) i ≡ noStep
+    unfolding tableFrom
     step-past h = getD-map-past (stepFrom t) 0 (t .steps) i noStep h
 
     -- each set of a step, by the field g and the words ws
-    pub step-set : (g : Step → List ℕ) (ws : List ℕ) → g noStep ≡ [] → g (stepFrom t i) ≡ membersBelow (getD ws i 0 ∷ []) (t .facts)
-        → (r : List ℕ) → r ≡ cond (ltb i (t .steps)) (getD ws i 0) 0 ∷ [] → membersBelow r (t .facts) ≡ g (stepOf (tableFrom t) i)
-    step-set g ws e d r q =
-        let none-there : t .steps ≤ i → membersBelow (cond (ltb i (t .steps)) (getD ws i 0) 0 ∷ []) (t .facts) ≡ [] = λ h. rw (le-ltb i (t .steps) h) (empty-set (t .facts)) in
-        let there : i < t .steps → membersBelow (cond (ltb i (t .steps)) (getD ws i 0) 0 ∷ []) (t .facts) ≡ g (stepFrom t i) = λ h. rw (lt-ltb i (t .steps) h) (sym d) in
-        ap (λ (v : List ℕ). membersBelow v (t .facts)) q
-        ∙ ⊎-elim (λ h. none-there h ∙ sym (ap g (step-past h) ∙ e)) (λ h. there h ∙ ap g (step-in h)) (le-or-lt (t .steps) i)
+    pub step-set : (g : Step → List ℕ) (ws : List ℕ) → g noStep ≡ [] → g (stepFrom t i) ≡ members (getD ws i 0 ∷ [])
+        → (r : List ℕ) → r ≡ cond (ltb i (t .steps)) (getD ws i 0) 0 ∷ [] → members r ≡ g (stepOf (tableFrom t) i)
+    step-set g ws e d r q = ⊎-elim
+        (λ h. ap members (q ∙ none-there h) ∙ empty-set ∙ sym (ap g (step-past h) ∙ e))
+        (λ h. ap members (q ∙ there h) ∙ sym d ∙ ap g (step-in h))
+        (le-or-lt (t .steps) i)
+      where
+        none-there : t .steps ≤ i → cond (ltb i (t .steps)) (getD ws i 0) 0 ∷ [] ≡ 0 ∷ []
+        none-there h = rw (le-ltb i (t .steps) h)
+
+        there : i < t .steps → cond (ltb i (t .steps)) (getD ws i 0) 0 ∷ [] ≡ getD ws i 0 ∷ []
+        there h = rw (lt-ltb i (t .steps) h)
+
+  -- what the code keeps as it stands
+  pub facts-told : t .facts ≡ (tableFrom t) .facts
+  unfolding tableFrom
+  facts-told = refl
+
+  pub jobs-told : t .jobs ≡ (tableFrom t) .jobs
+  unfolding tableFrom
+  jobs-told = refl
+
+  pub root-told : t .root ≡ (tableFrom t) .root
+  unfolding tableFrom
+  root-told = refl
+
+  pub depth-told : t .depth ≡ (tableFrom t) .depth
+  unfolding tableFrom
+  depth-told = refl
+
+  pub start-told : members (t .start) ≡ (tableFrom t) .start
+  unfolding tableFrom
+  start-told = refl
 
   -- Methods ------------------------------------------------------------------------------------------------------------------
   module _ (m : ℕ) where
     method-in : m < t .methods → getD ((tableFrom t) .methods) m noMethod ≡ methodFrom t m
+    unfolding tableFrom
     method-in h = let z : 0 + m ≡ m = omega arith in getD-map-from (methodFrom t) 0 (t .methods) m noMethod h ∙ ap (methodFrom t) z
 
     method-past : t .methods ≤ m → getD ((tableFrom t) .methods) m noMethod ≡ noMethod
+    unfolding tableFrom
     method-past h = getD-map-past (methodFrom t) 0 (t .methods) m noMethod h
 
     body-length : length ((methodFrom t m) .body) ≡ getD (t .sizes) m 0
@@ -149,18 +172,31 @@ pub task-job : (n k : ℕ) → n ≤ k → taskFrom (JobTask (k - n)) ≡ some (
 task-job n k h = rw (le-ltb k n h)
 
 -- Names ----------------------------------------------------------------------------------------------------------------------
-pub name-past : (p : Part) (s r : List ℕ) (n i : ℕ) → n ≤ i → r ≡ take 0 (drop 0 s) → r ≡ shown s (cond (ltb i n) p noPart)
+pub name-past : (p : Part) (s r : List ℕ) (n i : ℕ) → n ≤ i → r ≡ take 0 (drop 0 s) → r ≡ bytesAt s (cond (ltb i n) p noPart)
 name-past p s r n i h e = rw (le-ltb i n h) e
 
 pub name-in : (starts sizes : List ℕ) (s r : List ℕ) (n i k x y : ℕ) → i < n → x ≡ getD starts k 0 → y ≡ getD sizes k 0 → r ≡ take y (drop x s)
-    → r ≡ shown s (cond (ltb i n) (partWith starts sizes k) noPart)
+    → r ≡ bytesAt s (cond (ltb i n) (partWith starts sizes k) noPart)
 name-in starts sizes s r n i k x y h p q e = rw (lt-ltb i n h) (e ∙ ap₂ (λ (m l : ℕ). take l (drop m s)) p q)
 
 -- the names of a kind: n of them from place k on
-pub name-told : (f : ℕ → Part) (k k′ n i : ℕ) (s r : List ℕ) → k ≡ k′ → r ≡ shown s (cond (ltb i n) (f (k + i)) noPart) → r ≡ shown s (getD (map f (from k′ n)) i noPart)
+name-told : (f : ℕ → Part) (k k′ n i : ℕ) (s r : List ℕ) → k ≡ k′ → r ≡ bytesAt s (cond (ltb i n) (f (k + i)) noPart) → r ≡ bytesAt s (getD (map f (from k′ n)) i noPart)
 name-told f k k′ n i s r e q =
     let same : cond (ltb i n) (f (k + i)) noPart ≡ getD (map f (from k′ n)) i noPart = ⊎-elim
-    (λ h. rw (le-ltb i n h) (sym (getD-map-past f k′ n i noPart h)))
-    (λ h. rw (lt-ltb i n h, e) (sym (getD-map-from f k′ n i noPart h)))
-    (le-or-lt n i) in
-    q ∙ ap (shown s) same
+        (λ h. rw (le-ltb i n h) (sym (getD-map-past f k′ n i noPart h)))
+        (λ h. rw (lt-ltb i n h, e) (sym (getD-map-from f k′ n i noPart h)))
+        (le-or-lt n i) in
+    q ∙ ap (bytesAt s) same
+
+module _ (t : Table) (i : ℕ) (s r : List ℕ) where
+  pub fact-named : r ≡ bytesAt s (cond (ltb i (t .facts)) (partWith (t .starts) (t .lengths) (0 + 0 + i)) noPart) → r ≡ bytesAt s (getD ((namePartsFrom t) .facts) i noPart)
+  unfolding namePartsFrom
+  fact-named = name-told (partWith (t .starts) (t .lengths)) (0 + 0) 0 (t .facts) i s r (omega arith)
+
+  pub step-named : r ≡ bytesAt s (cond (ltb i (t .steps)) (partWith (t .starts) (t .lengths) (t .facts + 0 + i)) noPart) → r ≡ bytesAt s (getD ((namePartsFrom t) .steps) i noPart)
+  unfolding namePartsFrom
+  step-named = name-told (partWith (t .starts) (t .lengths)) (t .facts + 0) (t .facts) (t .steps) i s r (omega arith)
+
+  pub job-named : r ≡ bytesAt s (cond (ltb i (t .jobs)) (partWith (t .starts) (t .lengths) (t .facts + t .steps + i)) noPart) → r ≡ bytesAt s (getD ((namePartsFrom t) .jobs) i noPart)
+  unfolding namePartsFrom
+  job-named = name-told (partWith (t .starts) (t .lengths)) (t .facts + t .steps) (t .facts + t .steps) (t .jobs) i s r refl

@@ -19,7 +19,7 @@ use Rattle.lists.specs.Text.{bytes}
 use Rattle.outline.specs.Questions.{met4}
 use Rattle.outline.specs.Sections.{isEnd, past, rootLine, sections}
 
-all-past : (p : Piece → Bool) (c : ℕ) (ls : List Piece) → all p ls ≡ true → all p (past c ls) ≡ true
+pub all-past : (p : Piece → Bool) (c : ℕ) (ls : List Piece) → all p ls ≡ true → all p (past c ls) ≡ true
 unfolding past
 all-past p c [] e = e
 all-past p c (l ∷ ls) e = go (begins c (l .bytes)) (all-past p c ls (and-r (p l) (all p ls) e))

@@ -7,3 +7,4 @@ pub mod Access
 pub mod Depth
 pub mod Shown
 pub mod Promised
+pub mod Formed

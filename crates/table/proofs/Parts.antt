@@ -10,7 +10,8 @@ use Rattle.lists.specs.List.{from}
 use Rattle.lists.proofs.Place.{map-from}
 use Rattle.lines.specs.Parts.{Piece, noLine, linesOf, linesFrom}
 use Rattle.outline.specs.Sections.{Sections, sections}
-use Rattle.outline.specs.Part.{partOf, Names, namesAt}
+use Rattle.outline.specs.Part.{partOf}
+use Rattle.table.specs.Reading.{NameParts, namePartsOf}
 use Rattle.outline.specs.Index.{Indexed}
 use Rattle.outline.proofs.Questions.{lines-facts, lines-jobs}
 use Rattle.table.specs.Layout.{partWith}
@@ -30,10 +31,10 @@ module _ {s : List ℕ} {f st j : ℕ} {starts sizes : List ℕ} (u : Indexed s 
       ∙ ap partOf (ap (λ (m : List Piece). getD m (k + i) noLine) e ∙ ap (λ (m : ℕ). getD (before ++ (ls ++ after)) (m + i) noLine) d
       ∙ getD-append-add before (ls ++ after) i noLine ∙ List·getD-append ls after noLine i l))
 
-  pub names-held : _≡_ {A = Names}
+  pub names-held : _≡_ {A = NameParts}
       (record { facts = map (partWith starts sizes) (from 0 f); steps = map (partWith starts sizes) (from f st); jobs = map (partWith starts sizes) (from (f + st) j) })
-      (namesAt p)
-  unfolding namesAt
+      (namePartsOf p)
+  unfolding namePartsOf
   names-held =
       let a = section 0 f [] (p .facts) (p .steps ++ (p .jobs ++ (p .methods ++ p .ends))) (lines-facts s) refl (u .facts) (omega arith) in
       let b = section f st (p .facts) (p .steps) (p .jobs ++ (p .methods ++ p .ends)) (lines-facts s) (u .facts) (u .steps) (omega arith) in

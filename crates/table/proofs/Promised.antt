@@ -1,13 +1,13 @@
 -- What is promised of every reading: accepted tables, refusal numbers, names.
 -- Each field of an accepted table follows from the questions that are met.
-use mathlib.Core.Path.{_≡_, refl, sym, ap, subst, _∙_}
+use mathlib.Core.Path.{_≡_, ap₂, refl, sym, ap, subst, _∙_}
 use mathlib.Core.Bool.{Bool, true, false, cond, _&&_, _||_}
 use mathlib.Core.List.{List, [], _∷_, _++_, map}
 use Prim.Native.Nat.{ℕ, zero, suc, _≤_, _<_}
 use native.Mathlib.Omega.{arith}
-use lib.Dec.{leb, lit<}
+use lib.Dec.{lit<}
 use lib.ListN.{length, length-map}
-use Rattle.lists.specs.List.{all, has, Every, Rising}
+use Rattle.lists.specs.List.{all, has, Every, Rising, noneTwice}
 use Rattle.lists.specs.Question.{firstUnmet}
 use Rattle.lists.proofs.Bool.{and-l, and-r, leb-sound}
 use Rattle.lists.proofs.Member.{any-append}
@@ -16,31 +16,27 @@ use Rattle.lists.proofs.Rising.{rising-filter}
 use Rattle.planning.specs.Table.{Table, step, job, TaskIn, StepIn, MethodIn, Method, Sound, Limits}
 use Rattle.lines.specs.Bytes.{sameBytes}
 use Rattle.lines.specs.Parts.{Piece, linesOf}
-use Rattle.grammar.specs.Name.{Name}
-use Rattle.grammar.specs.Line.{nameIn, needsIn, setsIn, clearsIn, bodyIn, startIn}
+use Rattle.grammar.specs.Name.{Name, isName}
+use Rattle.grammar.specs.Line.{nameIn, needsIn, setsIn, clearsIn, bodyIn, startIn, F, S, T, list, isLine}
 use Rattle.grammar.specs.File.{met2, met3}
 use Rattle.outline.specs.Sections.{Sections, sections, past, startLine, rootLine}
-use Rattle.outline.specs.Names.{namesOf, among, numberOf, fact, step as stepKind, job as jobKind, declared}
-use Rattle.outline.specs.Questions.{short, met4, met5, met6, questions2to5}
-use Rattle.outline.specs.Part.{partOf, Names, namesAt}
+use Rattle.outline.specs.Names.{namesOf, among, numberOf, fact, step as stepKind, job as jobKind, declared, allNew, allDeclared}
+use Rattle.outline.specs.Questions.{short, met4, met5, met6, questions2to5, withinCounts}
+use Rattle.outline.specs.Part.{partOf}
+use Rattle.table.specs.Reading.{NameParts, namePartsOf, readTable, Reading, refused, passed, verdict, questions2to7, reading}
 use Rattle.outline.specs.Outlined.{questions2to6}
 use Rattle.rows.specs.Uses.{isFacts, usesFacts, usesTasks, met7, factsOf, taskOf}
 use Rattle.rows.specs.Row.{readStep, readMethod}
-use Rattle.table.specs.Reading.{readTable, Reading, refused, accepted, answer, questions2to7, reading}
-use Rattle.table.specs.Promises.{Promised, Promises}
-use Rattle.table.proofs.Depth.{deep-root}
+use Rattle.table.specs.Promises.{Promised, Promises, namesAt}
+use Rattle.table.proofs.Depth.{deep-root, all-past}
 use Rattle.table.proofs.Shown.{stands-lines, stands-leading, stands-past, stands-all}
+use Rattle.outline.proofs.Questions.{counts-small}
+use Rattle.rows.proofs.Counts.{number-in}
+use Rattle.lists.proofs.Every.{every-append}
+use Rattle.table.specs.Layout.{tableFrom, namePartsFrom, readingOf}
+use Rattle.table.proofs.Formed.{names-formed, begins-F, begins-S, begins-T}
 
 -- Numbers of names -----------------------------------------------------------------------------------------------------------
-number-in : (ms : List Name) (n : Name) → among ms n ≡ true → numberOf ms n < length ms
-unfolding among numberOf
-number-in [] n e = let z : _≡_ {A = ℕ} 0 1 = cc in omega arith
-number-in (m ∷ ms) n e = go (sameBytes n m) (number-in ms n) e
-  where
-    go : (b : Bool) → (among ms n ≡ true → numberOf ms n < length ms) → (b || among ms n) ≡ true → cond b 0 (suc (numberOf ms n)) < suc (length ms)
-    go true ih e = omega arith
-    go false ih e = omega (arith, ih e)
-
 among-append : (xs ys : List Name) (n : Name) → among (xs ++ ys) n ≡ (among xs n || among ys n)
 unfolding among
 among-append xs ys n = any-append (sameBytes n) xs ys
@@ -108,52 +104,48 @@ module _ (ls : List Piece) (e3 : met3 ls ≡ true) (e4 : met4 (sections ls) ≡ 
       let facts = declared p fact in
       let steps = declared p stepKind in
       let jobs = declared p jobKind in
-      let f = leb (length (p .facts)) 64 in
-      let s = leb (length (p .steps)) 64 in
-      let j = leb (length (p .jobs)) 64 in
-      let m = leb (length (p .methods)) 128 in
+      let w = withinCounts (length (p .facts)) (length (p .steps)) (length (p .jobs)) (length (p .methods)) in
       let b = all short (p .methods) in
-      let e6 = and-r f (s && (j && (m && b))) e5 in
-      let e7 = and-r s (j && (m && b)) e6 in
-      let e8 = and-r j (m && b) e7 in
+      let c = counts-small (length (p .facts)) (length (p .steps)) (length (p .jobs)) (length (p .methods)) (and-l w b e5) in
       record {
-        facts = leb-sound (length (p .facts)) 64 (and-l f (s && (j && (m && b))) e5);
-        steps = omega (arith, leb-sound (length (p .steps)) 64 (and-l s (j && (m && b)) e6), length-map (p .steps) (λ (l : Piece). readStep facts (l .bytes)));
-        jobs = leb-sound (length (p .jobs)) 64 (and-l j (m && b) e7);
-        methods = omega (arith, leb-sound (length (p .methods)) 128 (and-l m b e8), length-map (p .methods) (λ (l : Piece). readMethod steps jobs (l .bytes)));
+        facts = c .0;
+        steps = omega (arith, c .1, length-map (p .steps) (λ (l : Piece). readStep facts (l .bytes)));
+        jobs = c .2;
+        methods = omega (arith, c .3, length-map (p .methods) (λ (l : Piece). readMethod steps jobs (l .bytes)));
         bodies = every-read short (λ (l : Piece). readMethod steps jobs (l .bytes)) (λ (k : Method). length (k .body) ≤ 8)
             (λ l e. omega (arith, leb-sound (length (bodyIn (l .bytes))) 8 e, length-map (bodyIn (l .bytes)) (taskOf steps jobs)))
-            (p .methods) (and-r m b e8);
+            (p .methods) (and-r w b e5);
         depth = deep-root ls e3 e4 .1;
       }
 
--- The answer -----------------------------------------------------------------------------------------------------------------
+-- The verdict ----------------------------------------------------------------------------------------------------------------
 -- what an accepted reading says
 abbrev tableOr : Table → Reading → Table
 tableOr d (refused n) = d
-tableOr d (accepted t ns) = t
+tableOr d (passed t ns) = t
 
-abbrev namesOr : Names → Reading → Names
+abbrev namesOr : NameParts → Reading → NameParts
 namesOr d (refused n) = d
-namesOr d (accepted t ns) = ns
+namesOr d (passed t ns) = ns
 
 abbrev number : Reading → ℕ
 number (refused n) = suc n
-number (accepted t ns) = 0
+number (passed t ns) = 0
 
-answer-accepted : (q : ℕ) (t t′ : Table) (ns ns′ : Names) → answer q t ns ≡ accepted t′ ns′ → (0 ≡ q) × (t ≡ t′) × (ns ≡ ns′)
-answer-accepted zero t t′ ns ns′ e = (refl, ap (tableOr t) e, ap (namesOr ns) e)
-answer-accepted (suc q) t t′ ns ns′ e = absurd (omega (arith, ap number e))
+verdict-passed : (q : ℕ) (t t′ : Table) (ns ns′ : NameParts) → verdict q t ns ≡ passed t′ ns′ → (0 ≡ q) × (t ≡ t′) × (ns ≡ ns′)
+verdict-passed zero t t′ ns ns′ e = (refl, ap (tableOr t) e, ap (namesOr ns) e)
+verdict-passed (suc q) t t′ ns ns′ e = absurd (omega (arith, ap number e))
 
-answer-refused : (q n : ℕ) (t : Table) (ns : Names) → answer q t ns ≡ refused n → (q ≡ n) × (1 ≤ n)
-answer-refused zero n t ns e = absurd (omega (arith, ap number e))
-answer-refused (suc q) n t ns e = let z = ap number e in (omega (arith, z), omega (arith, z))
+verdict-refused : (q n : ℕ) (t : Table) (ns : NameParts) → verdict q t ns ≡ refused n → (q ≡ n) × (1 ≤ n)
+verdict-refused zero n t ns e = absurd (omega (arith, ap number e))
+verdict-refused (suc q) n t ns e = let z = ap number e in (omega (arith, z), omega (arith, z))
 
--- all six questions
+-- what is needed of the questions that are met
 record Met (s : List ℕ) : Type 0 where
   third : met3 (linesOf s) ≡ true
   fourth : met4 (sections (linesOf s)) ≡ true
   fifth : met5 (sections (linesOf s)) ≡ true
+  sixth : met6 (sections (linesOf s)) ≡ true
   seventh : met7 (sections (linesOf s)) ≡ true
 
 met : (s : List ℕ) → 0 ≡ firstUnmet (questions2to7 s) → Met s
@@ -171,7 +163,7 @@ met s e =
     let d = all-met 5 (met5 p) r6 (lit< tt) (c .1) in
     let f = all-met 6 (met6 p) r7 (lit< tt) (d .1) in
     let g = all-met 7 (met7 p) [] (lit< tt) (f .1) in
-    record { third = b .0; fourth = c .0; fifth = d .0; seventh = g .0 }
+    record { third = b .0; fourth = c .0; fifth = d .0; sixth = f .0; seventh = g .0 }
 
 -- the number of an unmet question is one of 2 to 7
 among-seven : (s : List ℕ) (n : ℕ) → firstUnmet (questions2to7 s) ≡ n → 1 ≤ n → (2 ≤ n) × (n ≤ 7)
@@ -187,36 +179,60 @@ among-seven s n e h = let p = sections (linesOf s) in go (met2 s) (met3 (linesOf
     go true true true true true false e = (omega arith, omega arith)
     go true true true true true true e = absurd (omega arith)
 
-promised : (s : List ℕ) → 0 ≡ firstUnmet (questions2to7 s) → Promised s (readTable (sections (linesOf s))) (namesAt (sections (linesOf s)))
-unfolding sections namesAt declared readTable
+promised : (s : List ℕ) → 0 ≡ firstUnmet (questions2to7 s) → Promised s (readTable (sections (linesOf s))) (namePartsOf (sections (linesOf s)))
+unfolding sections namePartsOf readTable met3 met6 allNew allDeclared declared
 promised s e =
     let ls = linesOf s in
     let p = sections ls in
     let m = met s e in
     let r = stands-lines s in
     let ss = past 70 ls in
+    let ts = past 83 ss in
     let rs = stands-past s 70 ls r in
     let rt = stands-past s 83 ss rs in
+    let a = stands-all s (p .facts) (stands-leading s 70 ls r) in
+    let b = stands-all s (p .steps) (stands-leading s 83 ss rs) in
+    let c = stands-all s (p .jobs) (stands-leading s 84 ts rt) in
+    let named : namesOf (p .facts) ++ (namesOf (p .steps) ++ namesOf (p .jobs)) ≡ namesAt s (map partOf (p .facts)) ++ (namesAt s (map partOf (p .steps)) ++ namesAt s (map partOf (p .jobs)))
+        = sym (ap₂ _++_ a (ap₂ _++_ b c)) in
+    let fs = m .third in
+    let fss = all-past (λ l. isLine (l .bytes)) 70 ls fs in
+    let fts = all-past (λ l. isLine (l .bytes)) 83 ss fss in
+    let isN : Name → Type 0 = λ n. isName n ≡ true in
+    let every = every-append isN (namesOf (p .facts)) (namesOf (p .steps) ++ namesOf (p .jobs)) (names-formed F [] refl (λ l. begins-F l) ls fs)
+        (every-append isN (namesOf (p .steps)) (namesOf (p .jobs)) (names-formed S (list ∷ list ∷ list ∷ []) refl (λ l. begins-S l) ss fss) (names-formed T [] refl (λ l. begins-T l) ts fts)) in
     record {
       sound = sound ls (m .third) (m .fourth) (m .seventh);
       limits = limits ls (m .third) (m .fourth) (m .fifth);
-      facts = stands-all s (p .facts) (stands-leading s 70 ls r);
-      steps = stands-all s (p .steps) (stands-leading s 83 ss rs);
-      jobs = stands-all s (p .jobs) (stands-leading s 84 (past 83 ss) rt);
-      fact-count = length-map (p .facts) partOf;
-      step-count = length-map (p .steps) partOf ∙ sym (length-map (p .steps) (λ (l : Piece). readStep (declared p fact) (l .bytes)));
-      job-count = length-map (p .jobs) partOf;
+      facts = length-map (p .facts) partOf;
+      steps = length-map (p .steps) partOf ∙ sym (length-map (p .steps) (λ (l : Piece). readStep (declared p fact) (l .bytes)));
+      jobs = length-map (p .jobs) partOf;
+      formed = subst (Every isN) named every;
+      new = sym (ap (noneTwice sameBytes) named) ∙ m .sixth;
     }
 
-pub promises : Promises
+taken : (s : List ℕ) (t : Table) (ns : NameParts) → reading s ≡ passed t ns → Promised s t ns
 unfolding reading
+taken s t ns e =
+    let p = sections (linesOf s) in
+    let r = verdict-passed (firstUnmet (questions2to7 s)) (readTable p) t (namePartsOf p) ns e in
+    rw (← r .1, ← r .2) (promised s (r .0))
+
+passed-by : (q : ℕ) (t : Table) (ns : NameParts) → q ≡ 0 → verdict q t ns ≡ passed t ns
+passed-by q t ns e = ap (λ (k : ℕ). verdict k t ns) e
+
+refused-by : (q : ℕ) (t : Table) (ns : NameParts) → (q ≡ 0 → ⊥) → verdict q t ns ≡ refused q
+refused-by zero t ns n = absurd (n refl)
+refused-by (suc q) t ns n = refl
+
+pub promises : Promises
+unfolding reading readingOf
 promises = record {
-  taken = λ s t ns e.
+  met = taken;
+  unmet = λ s n e.
       let p = sections (linesOf s) in
-      let r = answer-accepted (firstUnmet (questions2to7 s)) (readTable p) t (namesAt p) ns e in
-      rw (← r .1, ← r .2) (promised s (r .0));
-  turned-down = λ s n e.
-      let p = sections (linesOf s) in
-      let r = answer-refused (firstUnmet (questions2to7 s)) n (readTable p) (namesAt p) e in
+      let r = verdict-refused (firstUnmet (questions2to7 s)) n (readTable p) (namePartsOf p) e in
       among-seven s n (r .0) (r .1);
+  read = λ s r u z. taken s (tableFrom (r .table)) (namePartsFrom (r .table)) (sym (u .read) ∙ passed-by (r .question) (tableFrom (r .table)) (namePartsFrom (r .table)) z);
+  turned-down = λ s r u n. sym (u .read) ∙ refused-by (r .question) (tableFrom (r .table)) (namePartsFrom (r .table)) n;
 }

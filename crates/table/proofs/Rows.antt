@@ -1,6 +1,6 @@
 -- The steps and the methods: the code's words and numbers mean what the lines are read as.
 -- Line by line, and task by task in a body.
-use Rattle.planning.specs.Table.{Step, Method}
+use Rattle.planning.specs.Table.{Method}
 use mathlib.Core.Path.{_≡_, sym, ap, _∙_}
 use mathlib.Core.Bool.{Bool, true}
 use mathlib.Core.List.{List, [], _∷_, map}
@@ -20,12 +20,11 @@ use Rattle.table.specs.Layout.{taskAt}
 use Rattle.table.proofs.Tasks.{task-found}
 
 -- steps
-pub steps-read : (fs : List Name) (ls : List Piece) (xs ys zs : List ℕ) (ok : Bool) (c n : ℕ) → length fs ≡ c → n ≡ length ls → StepsMean fs ls ok xs ys zs
-    → all (λ l. usesFacts fs (l .bytes)) ls ≡ true
-    → map (λ i. stepWith c (getD xs i 0 ∷ []) (getD ys i 0 ∷ []) (getD zs i 0 ∷ [])) (upTo n) ≡ map (λ l. readStep fs (l .bytes)) ls
-steps-read fs ls xs ys zs ok c n e d u t = map-upTo
-    (λ i. stepWith c (getD xs i 0 ∷ []) (getD ys i 0 ∷ []) (getD zs i 0 ∷ [])) (λ l. readStep fs (l .bytes)) noLine n ls d
-    (λ i h. rw (← e) (u .at i h (all-at (λ l. usesFacts fs (l .bytes)) ls i noLine t h)))
+pub steps-read : (fs : List Name) (ls : List Piece) (xs ys zs : List ℕ) (ok : Bool) (n : ℕ) → n ≡ length ls → StepsMean fs ls ok xs ys zs → all (λ l. usesFacts fs (l .bytes)) ls ≡ true
+    → map (λ i. stepWith (getD xs i 0 ∷ []) (getD ys i 0 ∷ []) (getD zs i 0 ∷ [])) (upTo n) ≡ map (λ l. readStep fs (l .bytes)) ls
+steps-read fs ls xs ys zs ok n d u t = map-upTo
+    (λ i. stepWith (getD xs i 0 ∷ []) (getD ys i 0 ∷ []) (getD zs i 0 ∷ [])) (λ l. readStep fs (l .bytes)) noLine n ls d
+    (λ i h. u .at i h (all-at (λ l. usesFacts fs (l .bytes)) ls i noLine t h))
 
 -- one method: what its job's number and its tasks' numbers are
 abbrev methodWith : ℕ → ℕ → List ℕ → ℕ → ℕ → Method

@@ -22,7 +22,8 @@ use Rattle.lists.specs.Text.{bytes}
 use Rattle.outline.proofs.Names.{entry-none, entry-some}
 use Rattle.outline.specs.Index.{Entry}
 use Rattle.outline.specs.Names.{namesOf}
-use Rattle.outline.specs.Part.{partOf, shown}
+use Rattle.lines.specs.Part.{bytesAt}
+use Rattle.outline.specs.Part.{partOf}
 use Rattle.outline.specs.Sections.{leading, past}
 
 cut-of : (c : ℕ) (s : List ℕ) (a b : ℕ) → a ≤ b → b ≤ length s → Cut c s a b (a + before c (slice a b s))
@@ -30,7 +31,7 @@ cut-of c s a b h k = record { at = refl; low = omega arith; high = omega (arith,
 
 -- the line's name stands where its part says
 abbrev pub Stands : List ℕ → Piece → Type 0
-Stands s l = shown s (partOf l) ≡ nameIn (l .bytes)
+Stands s l = bytesAt s (partOf l) ≡ nameIn (l .bytes)
 
 stands-entry : (s : List ℕ) (l : Piece) (p z : ℕ) → Entry s l p z → Stands s l
 stands-entry s l p z e = rw (← e .start, ← e .size) (take-drop p z s ∙ e .shown)
@@ -73,7 +74,7 @@ stands-past s c (l ∷ ls) h = go (begins c (l .bytes)) (stands-past s c ls (h .
     go true r = r
     go false r = h
 
-pub stands-all : (s : List ℕ) (ls : List Piece) → Every (Stands s) ls → map (shown s) (map partOf ls) ≡ namesOf ls
+pub stands-all : (s : List ℕ) (ls : List Piece) → Every (Stands s) ls → map (bytesAt s) (map partOf ls) ≡ namesOf ls
 unfolding namesOf
 stands-all s [] h = refl
 stands-all s (l ∷ ls) h = ap₂ (λ (x : List ℕ) (xs : List (List ℕ)). x ∷ xs) (h .0) (stands-all s ls (h .1))

@@ -3,21 +3,19 @@
 use mathlib.Core.Path.{_≡_, refl, sym, ap, ap₂, _∙_}
 use mathlib.Core.Bool.{Bool, true, false, cond, _&&_}
 use mathlib.Core.List.{List, [], _∷_, _++_}
-use mathlib.Core.Logic.{⊎-elim}
+use native.Mathlib.Omega.{arith}
 use Prim.Native.Nat.{ℕ, zero, suc}
 use lib.Seq.{slice}
 use Rattle.lists.specs.List.{all}
 use Rattle.lists.specs.Question.{firstUnmet}
-use Rattle.lists.proofs.Bool.{bool-cases, and-l, and-r}
-use Rattle.bitset.specs.Set.{membersBelow}
+use Rattle.lists.proofs.Bool.{and-l, and-r}
 use Rattle.planning.specs.Table.{Table}
 use Rattle.lines.specs.Parts.{linesOf, linesFrom}
 use Rattle.grammar.specs.Line.{nameIn, startIn}
 use Rattle.outline.specs.Sections.{sections, startLine, rootLine}
 use Rattle.outline.specs.Names.{among, fact, job, task, declared}
-use Rattle.outline.specs.Questions.{short, met6, questions2to5}
-use Rattle.outline.specs.Part.{Names, namesAt}
-use Rattle.outline.specs.Outlined.{withinCounts, Outlined, questions2to6}
+use Rattle.outline.specs.Questions.{withinCounts, short, met6, questions2to5}
+use Rattle.outline.specs.Outlined.{Outlined, questions2to6}
 use Rattle.outline.specs.declared.Outline.{Outline}
 use Rattle.outline.proofs.Outlined.{Met2to5, met-2to6}
 use Rattle.outline.proofs.Questions.{fifth, counts-small, method-lines}
@@ -26,12 +24,12 @@ use Rattle.rows.specs.Answers.{Ready, StepsMean, MethodsMean, EndsMean}
 use Rattle.rows.specs.declared.Steps.{Steps}
 use Rattle.rows.specs.declared.Methods.{Methods}
 use Rattle.rows.specs.declared.Ends.{Ends}
-use Rattle.rows.proofs.Counts.{count-facts, count-steps}
-use Rattle.table.specs.Reading.{readTable, accepted, answer, questions2to7, reading}
-use Rattle.table.specs.Layout.{tableFrom, namesFrom, tableWith, readingOf}
+use Rattle.rows.proofs.Counts.{count-steps}
+use Rattle.table.specs.Layout.{tableFrom, namePartsFrom, noTable, tableWith, readingOf, Reads}
 use Rattle.table.specs.declared.Table.{Table as ReadTable}
 use Rattle.table.proofs.Parts.{names-held}
 use Rattle.table.proofs.Rows.{steps-read, methods-read}
+use Rattle.table.specs.Reading.{NameParts, readTable, namePartsOf, passed, verdict, questions2to7, reading}
 
 -- Questions 2 to 6, then 7 ---------------------------------------------------------------------------------------------------
 later : (q : ℕ) (b : Bool) (xs : List (ℕ × Bool)) → q ≡ firstUnmet xs → (q ≡ 0 → ⊥) → q ≡ firstUnmet (xs ++ ((7, b) ∷ []))
@@ -43,18 +41,25 @@ later q b (x ∷ xs) e n = go (x .1) e (λ d. later q b xs d n)
     go true d h = h d
     go false d h = d
 
-answer-refused : (q : ℕ) (t t′ : Table) (n n′ : Names) → (q ≡ 0 → ⊥) → answer q t n ≡ answer q t′ n′
-answer-refused zero t t′ n n′ h = absurd (h refl)
-answer-refused (suc q) t t′ n n′ h = refl
+verdict-refused : (q : ℕ) (t t′ : Table) (n n′ : NameParts) → (q ≡ 0 → ⊥) → verdict q t n ≡ verdict q t′ n′
+verdict-refused zero t t′ n n′ h = absurd (h refl)
+verdict-refused (suc q) t t′ n n′ h = refl
+
+-- a refusal by question q
+refusal : (s : List ℕ) (q : ℕ) (t : ReadTable) → q ≡ firstUnmet (questions2to7 s) → (q ≡ 0 → ⊥) → t ≡ noTable → Reads s (record { question = q; table = t })
+unfolding reading readingOf
+refusal s q t e n d =
+    let p = sections (linesOf s) in
+    record {
+      read = verdict-refused q (tableFrom t) (readTable p) (namePartsFrom t) (namePartsOf p) n ∙ ap (λ (k : ℕ). verdict k (readTable p) (namePartsOf p)) e;
+      nothing = λ h. d;
+    }
 
 module _ {s : List ℕ} {o : Outline} (u : Outlined s o) where
   -- turned down by one of questions 2 to 6
-  pub read-early : (t : ReadTable) → (o .question ≡ 0 → ⊥) → readingOf (record { question = o .question; table = t }) ≡ reading s
-  unfolding reading questions2to7 readingOf
-  read-early t n =
-      let p = sections (linesOf s) in
-      answer-refused (o .question) (tableFrom t) (readTable p) (namesFrom t) (namesAt p) n
-      ∙ ap (λ (q : ℕ). answer q (readTable p) (namesAt p)) (later (o .question) (met7 p) (questions2to6 s) (u .asked) n)
+  pub read-early : (t : ReadTable) → t ≡ noTable → (o .question ≡ 0 → ⊥) → Reads s (record { question = o .question; table = t })
+  unfolding questions2to7 questions2to6 questions2to5
+  read-early t d n = refusal s (o .question) t (later (o .question) (met7 (sections (linesOf s))) (questions2to6 s) (u .asked) n) n d
 
   module _ (z : o .question ≡ 0) where
     met : Met2to5 s × (met6 (sections (linesOf s)) ≡ true)
@@ -94,7 +99,7 @@ module _ {s : List ℕ} {o : Outline} (u : Outlined s o) where
       seven = ap₂ _&&_ (a .told) (ap₂ _&&_ (b .told) (c .told))
 
       read-table : met7 (sections (linesOf s)) ≡ true → tableFrom (tableWith (o .shape) (o .names) x m e) ≡ readTable (sections (linesOf s))
-      unfolding met7 readTable
+      unfolding met7 readTable tableFrom
       read-table t =
           let p = sections (linesOf s) in
           let h = o .shape in
@@ -103,26 +108,36 @@ module _ {s : List ℕ} {o : Outline} (u : Outlined s o) where
           let t₃ = isFacts (declared p fact) (startIn (startLine p)) in
           let t₄ = among (declared p job) (nameIn (rootLine p)) in
           let i = ready .indexed in
-          let ss = steps-read (declared p fact) (p .steps) (x .needs) (x .sets) (x .clears) (x .ok) (h .facts) (h .steps) (count-facts ready) (i .steps) a (and-l t₁ (t₂ && (t₃ && t₄)) t) in
+          let ss = steps-read (declared p fact) (p .steps) (x .needs) (x .sets) (x .clears) (x .ok) (h .steps) (i .steps) a (and-l t₁ (t₂ && (t₃ && t₄)) t) in
           let ms = methods-read p (p .methods) (m .owners) (m .sizes) (m .bodies) (m .ok) (h .steps) (h .methods) (count-steps ready) (u .shaped .methods) b in
-          let st = ap (membersBelow (e .start)) (sym (count-facts ready)) ∙ c .set (and-l t₃ t₄ (and-r t₂ (t₃ && t₄) (and-r t₁ (t₂ && (t₃ && t₄)) t))) in
+          let st = c .set (and-l t₃ t₄ (and-r t₂ (t₃ && t₄) (and-r t₁ (t₂ && (t₃ && t₄)) t))) in
           λ k. record { facts = i .facts k; steps = ss k; jobs = i .jobs k; methods = ms k; start = st k; root = c .root k; depth = c .depth k }
 
-      -- question 7, and the table where it is met
-      pub read-late : (q : ℕ) (t : ReadTable) → q ≡ cond (x .ok && (m .ok && e .ok)) 0 7 → t ≡ tableWith (o .shape) (o .names) x m e
-          → readingOf (record { question = q; table = t }) ≡ reading s
-      unfolding reading readingOf
-      read-late q t d w =
+      asked : (q : ℕ) → q ≡ cond (x .ok && (m .ok && e .ok)) 0 7 → q ≡ cond (met7 (sections (linesOf s))) 0 7
+      asked q d = d ∙ ap (λ (k : Bool). cond k 0 7) seven
+
+      -- turned down by question 7
+      pub read-seventh : (q : ℕ) (t : ReadTable) → q ≡ cond (x .ok && (m .ok && e .ok)) 0 7 → t ≡ noTable → (q ≡ 0 → ⊥) → Reads s (record { question = q; table = t })
+      read-seventh q t d w n = refusal s q t (asked q d ∙ sym asked7) n w
+
+      -- where it is met too
+      seventh-is : (b : Bool) → _≡_ {A = ℕ} 0 (cond b 0 7) → b ≡ true
+      seventh-is true h = refl
+      seventh-is false h = absurd (omega (arith, h))
+
+      pub read-late : (q : ℕ) (t : ReadTable) → q ≡ cond (x .ok && (m .ok && e .ok)) 0 7 → q ≡ 0 → t ≡ tableWith (o .shape) (o .names) x m e
+          → Reads s (record { question = 0; table = t })
+      unfolding reading readingOf namePartsFrom
+      read-late q t d z w =
           let p = sections (linesOf s) in
-          let d₁ : q ≡ cond (met7 p) 0 7 = d ∙ ap (λ (k : Bool). cond k 0 7) seven in
-          let found : (k : Bool) → met7 p ≡ k → readingOf (record { question = q; table = t }) ≡ readingOf (record { question = cond k 0 7; table = tableWith (o .shape) (o .names) x m e })
-          = λ k y. ap₂ (λ (n : ℕ) (r : ReadTable). answer n (tableFrom r) (namesFrom r)) (d₁ ∙ ap (λ (j : Bool). cond j 0 7) y) w in
-          let asked : (k : Bool) → met7 p ≡ k → answer (cond k 0 7) (readTable p) (namesAt p) ≡ reading s
-          = λ k y. sym (ap (λ (n : ℕ). answer n (readTable p) (namesAt p)) (asked7 ∙ ap (λ (j : Bool). cond j 0 7) y)) in
-          ⊎-elim
-          (λ y. found true y ∙ ap₂ accepted (read-table y) (names-held (ready .indexed)) ∙ asked true y)
-          (λ n. found false n ∙ asked false n)
-          (bool-cases (met7 p))
+          let y : met7 p ≡ true = seventh-is (met7 p) (sym z ∙ asked q d) in
+          let v : 0 ≡ firstUnmet (questions2to7 s) = sym (asked7 ∙ ap (λ (k : Bool). cond k 0 7) y) in
+          record {
+            read = ap (λ (r : ReadTable). passed (tableFrom r) (namePartsFrom r)) w
+                ∙ ap₂ passed (read-table y) (names-held (ready .indexed))
+                ∙ ap (λ (n : ℕ). verdict n (readTable p) (namePartsOf p)) v;
+            nothing = λ h. absurd (h refl);
+          }
 
 -- the number that the code gives
 pub seventh-met : (a b c : Bool) {r s : Bool} → r ≡ (a && s) → s ≡ (b && c) → r ≡ true → _≡_ {A = ℕ} 0 (cond (a && (b && c)) 0 7)

@@ -1,7 +1,6 @@
 -- The files of the ten marked tables, and the edges: "Marked tables (*) and edges". The statements alone; proofs/Computed.antt proves
 -- them by computing each reading.
 -- Assumes nothing.
-use Rattle.outline.specs.Part.{Names}
 use mathlib.Core.Path.{_≡_}
 use mathlib.Core.List.{List, [], _∷_, _++_, map}
 use Prim.Native.Nat.{ℕ, _+_, _/_, _%_}
@@ -10,39 +9,39 @@ use Rattle.lists.specs.List.{concatMap, upTo}
 use Rattle.lists.specs.Text.{bytes}
 use Rattle.planning.specs.Table.{Table, step}
 use Rattle.planning.specs.Marked.{table, by, lift, shown, deeper, emptyBody, withoutMethods, serveAndLift, serveAndLiftDeeper, twice, needsOpen, needsOpenAtStart, setsAndClears, Marked}
-use Rattle.outline.specs.Part.{shown as part}
-use Rattle.table.specs.Reading.{refused, accepted, reading}
+use Rattle.table.specs.Reading.{NameParts, refused, passed, reading}
+use Rattle.lines.specs.Part.{bytesAt}
 
--- the file is accepted as the table, with these names
-pub record ReadAs (file : List ℕ) (t : Table) (facts steps jobs : List (List ℕ)) : Type 0 where
-  pub names : Names
-  pub read : reading file ≡ accepted t names
-  pub fact-names : map (part file) (names .facts) ≡ facts
-  pub step-names : map (part file) (names .steps) ≡ steps
-  pub job-names : map (part file) (names .jobs) ≡ jobs
+-- the file is read as the table, with these names
+pub record FileReads (file : List ℕ) (t : Table) (facts steps jobs : List (List ℕ)) : Type 0 where
+  pub names : NameParts
+  pub read : reading file ≡ passed t names
+  pub fact-names : map (bytesAt file) (names .facts) ≡ facts
+  pub step-names : map (bytesAt file) (names .steps) ≡ steps
+  pub job-names : map (bytesAt file) (names .jobs) ≡ jobs
 
 -- one fact, open; one step, lift; one job, serve
-abbrev pub ReadsAs : String → Table → Type 0
-ReadsAs file t = ReadAs (bytes file) t (bytes "open" ∷ []) (bytes "lift" ∷ []) (bytes "serve" ∷ [])
+abbrev pub ExampleReads : String → Table → Type 0
+ExampleReads file t = FileReads (bytes file) t (bytes "open" ∷ []) (bytes "lift" ∷ []) (bytes "serve" ∷ [])
 
 pub record MarkedFiles : Type 0 where
-  pub shown-file : ReadsAs "F\topen\nS\tlift\t-\topen\t-\nT\tserve\nM\tserve\tlift\nI\t-\nR\tserve\t1\n" shown
+  pub shown-file : ExampleReads "F\topen\nS\tlift\t-\topen\t-\nT\tserve\nM\tserve\tlift\nI\t-\nR\tserve\t1\n" shown
   -- "Depth 2"
-  pub deeper-file : ReadsAs "F\topen\nS\tlift\t-\topen\t-\nT\tserve\nM\tserve\tlift\nI\t-\nR\tserve\t2\n" deeper
+  pub deeper-file : ExampleReads "F\topen\nS\tlift\t-\topen\t-\nT\tserve\nM\tserve\tlift\nI\t-\nR\tserve\t2\n" deeper
   -- "Body `-`"
-  pub empty-file : ReadsAs "F\topen\nS\tlift\t-\topen\t-\nT\tserve\nM\tserve\t-\nI\t-\nR\tserve\t1\n" emptyBody
+  pub empty-file : ExampleReads "F\topen\nS\tlift\t-\topen\t-\nT\tserve\nM\tserve\t-\nI\t-\nR\tserve\t1\n" emptyBody
   -- "No M line"
-  pub none-file : ReadsAs "F\topen\nS\tlift\t-\topen\t-\nT\tserve\nI\t-\nR\tserve\t1\n" withoutMethods
+  pub none-file : ExampleReads "F\topen\nS\tlift\t-\topen\t-\nT\tserve\nI\t-\nR\tserve\t1\n" withoutMethods
   -- "Methods `serve` and `lift`, depth 1", "The same, depth 2"
-  pub both-file : ReadsAs "F\topen\nS\tlift\t-\topen\t-\nT\tserve\nM\tserve\tserve\nM\tserve\tlift\nI\t-\nR\tserve\t1\n" serveAndLift
-  pub both-deeper-file : ReadsAs "F\topen\nS\tlift\t-\topen\t-\nT\tserve\nM\tserve\tserve\nM\tserve\tlift\nI\t-\nR\tserve\t2\n" serveAndLiftDeeper
+  pub both-file : ExampleReads "F\topen\nS\tlift\t-\topen\t-\nT\tserve\nM\tserve\tserve\nM\tserve\tlift\nI\t-\nR\tserve\t1\n" serveAndLift
+  pub both-deeper-file : ExampleReads "F\topen\nS\tlift\t-\topen\t-\nT\tserve\nM\tserve\tserve\nM\tserve\tlift\nI\t-\nR\tserve\t2\n" serveAndLiftDeeper
   -- "The M line twice"
-  pub twice-file : ReadsAs "F\topen\nS\tlift\t-\topen\t-\nT\tserve\nM\tserve\tlift\nM\tserve\tlift\nI\t-\nR\tserve\t1\n" twice
+  pub twice-file : ExampleReads "F\topen\nS\tlift\t-\topen\t-\nT\tserve\nM\tserve\tlift\nM\tserve\tlift\nI\t-\nR\tserve\t1\n" twice
   -- "lift needs open", "That, with open at the start"
-  pub needs-file : ReadsAs "F\topen\nS\tlift\topen\topen\t-\nT\tserve\nM\tserve\tlift\nI\t-\nR\tserve\t1\n" needsOpen
-  pub needs-start-file : ReadsAs "F\topen\nS\tlift\topen\topen\t-\nT\tserve\nM\tserve\tlift\nI\topen\nR\tserve\t1\n" needsOpenAtStart
+  pub needs-file : ExampleReads "F\topen\nS\tlift\topen\topen\t-\nT\tserve\nM\tserve\tlift\nI\t-\nR\tserve\t1\n" needsOpen
+  pub needs-start-file : ExampleReads "F\topen\nS\tlift\topen\topen\t-\nT\tserve\nM\tserve\tlift\nI\topen\nR\tserve\t1\n" needsOpenAtStart
   -- "lift sets and clears open"
-  pub clears-file : ReadsAs "F\topen\nS\tlift\t-\topen\topen\nT\tserve\nM\tserve\tlift\nI\t-\nR\tserve\t1\n" setsAndClears
+  pub clears-file : ExampleReads "F\topen\nS\tlift\t-\topen\topen\nT\tserve\nM\tserve\tlift\nI\t-\nR\tserve\t1\n" setsAndClears
   -- what document 01 says of these ten tables
   pub marked : Marked
 
@@ -58,15 +57,15 @@ factsTable n = record { facts = n; steps = []; jobs = 1; methods = []; start = [
 
 pub record Edges : Type 0 where
   -- "Depth 8 is taken, 0 and 9 give 3."
-  pub depth-8 : ReadsAs "F\topen\nS\tlift\t-\topen\t-\nT\tserve\nM\tserve\tlift\nI\t-\nR\tserve\t8\n" (table lift (by (step 0 ∷ []) ∷ []) [] 8)
+  pub depth-8 : ExampleReads "F\topen\nS\tlift\t-\topen\t-\nT\tserve\nM\tserve\tlift\nI\t-\nR\tserve\t8\n" (table lift (by (step 0 ∷ []) ∷ []) [] 8)
   pub depth-0 : reading (bytes "F\topen\nS\tlift\t-\topen\t-\nT\tserve\nM\tserve\tlift\nI\t-\nR\tserve\t0\n") ≡ refused 3
   pub depth-9 : reading (bytes "F\topen\nS\tlift\t-\topen\t-\nT\tserve\nM\tserve\tlift\nI\t-\nR\tserve\t9\n") ≡ refused 3
   -- "Bodies: 8 taken, 9 gives 5."
-  pub body-8 : ReadsAs "F\topen\nS\tlift\t-\topen\t-\nT\tserve\nM\tserve\tlift,lift,lift,lift,lift,lift,lift,lift\nI\t-\nR\tserve\t1\n"
+  pub body-8 : ExampleReads "F\topen\nS\tlift\t-\topen\t-\nT\tserve\nM\tserve\tlift,lift,lift,lift,lift,lift,lift,lift\nI\t-\nR\tserve\t1\n"
       (table lift (by (step 0 ∷ step 0 ∷ step 0 ∷ step 0 ∷ step 0 ∷ step 0 ∷ step 0 ∷ step 0 ∷ []) ∷ []) [] 1)
   pub body-9 : reading (bytes "F\topen\nS\tlift\t-\topen\t-\nT\tserve\nM\tserve\tlift,lift,lift,lift,lift,lift,lift,lift,lift\nI\t-\nR\tserve\t1\n") ≡ refused 5
   -- "Facts: 64 and 65 likewise."
-  pub facts-64 : (ns : Names) × (reading (factsFile 64) ≡ accepted (factsTable 64) ns)
+  pub facts-64 : (ns : NameParts) × (reading (factsFile 64) ≡ passed (factsTable 64) ns)
   pub facts-65 : reading (factsFile 65) ≡ refused 5
   -- "An empty file gives 2."
   pub empty : reading [] ≡ refused 2

@@ -1,21 +1,23 @@
--- What the code's table means: the table of `planning` that it holds, and where its names stand.
+-- What the code's table means: the table of `planning` that it holds (`tableFrom`), and where its names stand (`namePartsFrom`).
+-- Both are shut to other crates, which know them through the contracts of the calls and through Promises.
 -- Assumes nothing.
+use mathlib.Core.Path.{_≡_}
 use mathlib.Core.Bool.{cond}
 use mathlib.Core.List.{List, [], _∷_, map}
 use mathlib.Core.Option.{Option, none, some}
 use Prim.Native.Nat.{ℕ, _+_, _-_, _*_}
 use lib.Dec.{ltb}
-use lib.ListN.{getD}
+use lib.ListN.{getD, replicate}
 use Rattle.lists.specs.List.{from, upTo}
-use Rattle.bitset.specs.Set.{membersBelow}
+use Rattle.bitset.specs.Set.{members}
 use Rattle.planning.specs.Table.{Task as PlanningTask, step, job, Step, Method, Table}
-use Rattle.outline.specs.Part.{Part, Names}
+use Rattle.lines.specs.Part.{Part}
 use Rattle.outline.specs.declared.Shape.{Shape}
 use Rattle.outline.specs.declared.Spans.{Spans}
 use Rattle.rows.specs.declared.Steps.{Steps}
 use Rattle.rows.specs.declared.Methods.{Methods}
 use Rattle.rows.specs.declared.Ends.{Ends}
-use Rattle.table.specs.Reading.{Reading, answer}
+use Rattle.table.specs.Reading.{NameParts, Reading, verdict, reading}
 use Rattle.table.specs.declared.Table.{Table as ReadTable}
 use Rattle.table.specs.declared.Outcome.{Outcome}
 use Rattle.table.specs.declared.Task.{Task}
@@ -28,9 +30,9 @@ taskAt n k = cond (ltb k n) (step k) (job (k - n))
 -- step i: a word for each of its sets
 abbrev pub stepFrom : ReadTable → ℕ → Step
 stepFrom t i = record {
-  needs = membersBelow (getD (t .needs) i 0 ∷ []) (t .facts);
-  sets = membersBelow (getD (t .sets) i 0 ∷ []) (t .facts);
-  clears = membersBelow (getD (t .clears) i 0 ∷ []) (t .facts);
+  needs = members (getD (t .needs) i 0 ∷ []);
+  sets = members (getD (t .sets) i 0 ∷ []);
+  clears = members (getD (t .clears) i 0 ∷ []);
 }
 
 -- method m: its job, and up to eight tasks from place m * 8 on
@@ -40,13 +42,13 @@ methodFrom t m = record {
   body = map (λ j. taskAt (t .steps) (getD (t .bodies) (m * 8 + j) 0)) (upTo (getD (t .sizes) m 0));
 }
 
-abbrev pub tableFrom : ReadTable → Table
+unfoldable pub tableFrom : ReadTable → Table
 tableFrom t = record {
   facts = t .facts;
   steps = map (stepFrom t) (upTo (t .steps));
   jobs = t .jobs;
   methods = map (methodFrom t) (upTo (t .methods));
-  start = membersBelow (t .start) (t .facts);
+  start = members (t .start);
   root = t .root;
   depth = t .depth;
 }
@@ -55,11 +57,31 @@ tableFrom t = record {
 abbrev pub partWith : (starts sizes : List ℕ) → ℕ → Part
 partWith starts sizes i = record { start = getD starts i 0; size = getD sizes i 0 }
 
-abbrev pub namesFrom : ReadTable → Names
-namesFrom t = record {
+unfoldable pub namePartsFrom : ReadTable → NameParts
+namePartsFrom t = record {
   facts = map (partWith (t .starts) (t .lengths)) (upTo (t .facts));
   steps = map (partWith (t .starts) (t .lengths)) (from (t .facts) (t .steps));
   jobs = map (partWith (t .starts) (t .lengths)) (from (t .facts + t .steps) (t .jobs));
+}
+
+-- the table that stands beside a refusal: nothing in it
+abbrev pub noTable : ReadTable
+noTable = record {
+  facts = 0;
+  steps = 0;
+  jobs = 0;
+  methods = 0;
+  starts = replicate 192 0;
+  lengths = replicate 192 0;
+  needs = replicate 64 0;
+  sets = replicate 64 0;
+  clears = replicate 64 0;
+  owners = replicate 128 0;
+  sizes = replicate 128 0;
+  bodies = replicate 1024 0;
+  start = replicate 1 0;
+  root = 0;
+  depth = 0;
 }
 
 -- the table that the code puts together from a file's shape, its names and its lines
@@ -85,7 +107,13 @@ tableWith h n x m e = record {
 -- The answers of the calls ---------------------------------------------------------------------------------------------------
 -- the read: the number of the first question that is not met, 0 where all are, beside the table
 unfoldable pub readingOf : Outcome → Reading
-readingOf r = answer (r .question) (tableFrom (r .table)) (namesFrom (r .table))
+unfolding tableFrom namePartsFrom
+readingOf r = verdict (r .question) (tableFrom (r .table)) (namePartsFrom (r .table))
+
+-- the whole outcome: the reading, and nothing in the table beside a refusal
+pub record Reads (s : List ℕ) (r : Outcome) : Type 0 where
+  pub read : readingOf r ≡ reading s
+  pub nothing : (r .question ≡ 0 → ⊥) → r .table ≡ noTable
 
 -- a task of a body
 abbrev pub taskFrom : Task → Option PlanningTask

@@ -1,31 +1,40 @@
 -- What is promised of every reading. The statements alone; proofs/Promised.antt proves them.
 -- Assumes nothing.
 use mathlib.Core.Path.{_≡_}
-use mathlib.Core.List.{List, map}
+use mathlib.Core.Bool.{true}
+use mathlib.Core.List.{List, _++_, map}
 use Prim.Native.Nat.{ℕ, _≤_}
 use lib.ListN.{length}
+use Rattle.lists.specs.List.{Every, noneTwice}
 use Rattle.planning.specs.Table.{Table, Sound, Limits}
-use Rattle.lines.specs.Parts.{linesOf}
-use Rattle.outline.specs.Sections.{sections}
-use Rattle.outline.specs.Names.{fact, step, job, declared}
-use Rattle.outline.specs.Part.{Names, shown}
-use Rattle.table.specs.Reading.{refused, accepted, reading}
+use Rattle.lines.specs.Bytes.{sameBytes}
+use Rattle.lines.specs.Part.{Part, bytesAt}
+use Rattle.grammar.specs.Name.{Name, isName}
+use Rattle.table.specs.Reading.{NameParts, refused, passed, reading}
+use Rattle.table.specs.Layout.{tableFrom, namePartsFrom, Reads}
+use Rattle.table.specs.declared.Outcome.{Outcome}
 
--- The bytes s are accepted, with the table t and the parts ns of its names
-pub record Promised (s : List ℕ) (t : Table) (ns : Names) : Type 0 where
+-- the names that stand at some parts of the file s
+abbrev pub namesAt : List ℕ → List Part → List Name
+namesAt s ps = map (bytesAt s) ps
+
+-- The file s has passed questions 2 to 7, as the table t whose names stand at the parts ns
+pub record Promised (s : List ℕ) (t : Table) (ns : NameParts) : Type 0 where
   -- every number in it is that of a fact, a step or a job of the table, and the counts are within the limits
   pub sound : Sound t
   pub limits : Limits t
-  -- "Each name shown is the part of the table file where it was declared": the bytes of the parts are the names declared
-  pub facts : map (shown s) (ns .facts) ≡ declared (sections (linesOf s)) fact
-  pub steps : map (shown s) (ns .steps) ≡ declared (sections (linesOf s)) step
-  pub jobs : map (shown s) (ns .jobs) ≡ declared (sections (linesOf s)) job
-  -- and there is one for each fact, step and job
-  pub fact-count : length (ns .facts) ≡ t .facts
-  pub step-count : length (ns .steps) ≡ length (t .steps)
-  pub job-count : length (ns .jobs) ≡ t .jobs
+  -- there is a name for each fact, step and job
+  pub facts : length (ns .facts) ≡ t .facts
+  pub steps : length (ns .steps) ≡ length (t .steps)
+  pub jobs : length (ns .jobs) ≡ t .jobs
+  -- "A name is 1 to 12 characters: a lowercase letter, then lowercase letters, digits or hyphens", and no two are the same
+  pub formed : Every (λ (n : Name). isName n ≡ true) (namesAt s (ns .facts) ++ (namesAt s (ns .steps) ++ namesAt s (ns .jobs)))
+  pub new : noneTwice sameBytes (namesAt s (ns .facts) ++ (namesAt s (ns .steps) ++ namesAt s (ns .jobs))) ≡ true
 
 pub record Promises : Type 0 where
-  pub taken : (s : List ℕ) (t : Table) (ns : Names) → reading s ≡ accepted t ns → Promised s t ns
+  pub met : (s : List ℕ) (t : Table) (ns : NameParts) → reading s ≡ passed t ns → Promised s t ns
   -- a refusal is by one of questions 2 to 7
-  pub turned-down : (s : List ℕ) (n : ℕ) → reading s ≡ refused n → (2 ≤ n) × (n ≤ 7)
+  pub unmet : (s : List ℕ) (n : ℕ) → reading s ≡ refused n → (2 ≤ n) × (n ≤ 7)
+  -- so what the call hands back is promised too, and its number is the first unmet question's
+  pub read : (s : List ℕ) (r : Outcome) → Reads s r → r .question ≡ 0 → Promised s (tableFrom (r .table)) (namePartsFrom (r .table))
+  pub turned-down : (s : List ℕ) (r : Outcome) → Reads s r → (r .question ≡ 0 → ⊥) → reading s ≡ refused (r .question)

@@ -7,11 +7,10 @@ ghost use mathlib.Core.Option.{some};
 ghost use lib.Dec.{ltb};
 ghost use Prim.Native.Nat.{_+_, _*_, _≤_, _<_};
 ghost use lib.ListN.{length, getD, take, drop, getElem?};
-ghost use Rattle.bitset.specs.Set.{membersBelow};
+ghost use Rattle.bitset.specs.Set.{members};
 ghost use Rattle.planning.specs.Table.{stepOf, jobOf, bodyOf};
-ghost use Rattle.outline.specs.Part.{shown};
-ghost use Rattle.table.specs.Reading.{reading};
-ghost use Rattle.table.specs.Layout.{tableFrom, namesFrom, readingOf, taskAt, taskFrom, tableWith, partWith, noPart};
+ghost use Rattle.lines.specs.Part.{bytesAt};
+ghost use Rattle.table.specs.Layout.{tableFrom, namePartsFrom, taskAt, taskFrom, noTable, tableWith, partWith, noPart, Reads};
 use outline::Shape;
 use outline::Spans;
 use outline::outline_of;
@@ -43,7 +42,7 @@ pub struct Table {
     depth: usize,
 }
 
-// The number of the first question that is not met, 0 where all are; then the table.
+// The number of the first question that is not met, 0 where all are met; then the table that was read.
 pub struct Outcome {
     pub question: usize,
     pub table: Table,
@@ -81,8 +80,10 @@ fn table_of(h: Shape, n: Spans, x: Steps, m: Methods, e: Ends) -> Table
     }
 }
 
-// What stands beside a refusal.
-fn no_table() -> Table {
+// What stands beside a refusal: nothing.
+fn no_table() -> Table
+    ensures { λ r. ⌜ r ≡ noTable ⌝ }
+{
     Table {
         facts: 0,
         steps: 0,
@@ -111,7 +112,7 @@ fn seventh(a: bool, b: bool, c: bool) -> usize
 
 // Reads any bytes as a table file.
 pub fn read(file: &[u8]) -> Outcome
-    ensures { λ r. ⌜ readingOf r ≡ reading (now (file .entry)) ⌝ }
+    ensures { λ r. ⌜ Reads (now (file .entry)) r ⌝ }
 {
     let o = outline_of(file);
     if o.question != 0 {
@@ -125,8 +126,15 @@ pub fn read(file: &[u8]) -> Outcome
     let x = read_steps(file, &n.start, &n.size, h);
     let m = read_methods(file, &n.start, &n.size, h);
     let e = read_ends(file, &n.start, &n.size, h);
+    let q = seventh(x.ok, m.ok, e.ok);
+    if q != 0 {
+        return Outcome {
+            question: q,
+            table: no_table(),
+        };
+    }
     Outcome {
-        question: seventh(x.ok, m.ok, e.ok),
+        question: 0,
         table: table_of(h, n, x, m, e),
     }
 }
@@ -208,7 +216,7 @@ fn name_at<'a, 'b>(
     n: u8,
     i: usize,
 ) -> &'a [u8]
-    ensures { λ r. ⌜ now r ≡ shown (now (file .entry)) (cond (ltb i n) (partWith (now (starts .entry)) (now (lengths .entry)) (a + b + i)) noPart) ⌝ }
+    ensures { λ r. ⌜ now r ≡ bytesAt (now (file .entry)) (cond (ltb i n) (partWith (now (starts .entry)) (now (lengths .entry)) (a + b + i)) noPart) ⌝ }
 {
     if i >= n as usize {
         return part(file, 0, 0);
@@ -275,26 +283,26 @@ impl Table {
 
     // The facts true at the start.
     pub fn start(self) -> FactSet
-        ensures { λ r. ⌜ membersBelow r ((tableFrom self) .facts) ≡ (tableFrom self) .start ⌝ }
+        ensures { λ r. ⌜ members r ≡ (tableFrom self) .start ⌝ }
     {
         self.start
     }
 
     // The facts that step i needs, sets and clears; none where there is no such step.
     pub fn needs(self, i: usize) -> FactSet
-        ensures { λ r. ⌜ membersBelow r ((tableFrom self) .facts) ≡ (stepOf (tableFrom self) i) .needs ⌝ }
+        ensures { λ r. ⌜ members r ≡ (stepOf (tableFrom self) i) .needs ⌝ }
     {
         set_below(&self.needs, self.steps, i)
     }
 
     pub fn sets(self, i: usize) -> FactSet
-        ensures { λ r. ⌜ membersBelow r ((tableFrom self) .facts) ≡ (stepOf (tableFrom self) i) .sets ⌝ }
+        ensures { λ r. ⌜ members r ≡ (stepOf (tableFrom self) i) .sets ⌝ }
     {
         set_below(&self.sets, self.steps, i)
     }
 
     pub fn clears(self, i: usize) -> FactSet
-        ensures { λ r. ⌜ membersBelow r ((tableFrom self) .facts) ≡ (stepOf (tableFrom self) i) .clears ⌝ }
+        ensures { λ r. ⌜ members r ≡ (stepOf (tableFrom self) i) .clears ⌝ }
     {
         set_below(&self.clears, self.steps, i)
     }
@@ -328,20 +336,20 @@ impl Table {
 
     // The names of fact, step and job i: the part of the table's file where each was declared; empty where there is none.
     pub fn fact_name<'a>(self, file: &'a [u8], i: usize) -> &'a [u8]
-        ensures { λ r. ⌜ now r ≡ shown (now (file .entry)) (getD ((namesFrom self) .facts) i noPart) ⌝ }
+        ensures { λ r. ⌜ now r ≡ bytesAt (now (file .entry)) (getD ((namePartsFrom self) .facts) i noPart) ⌝ }
     {
         name_at(file, &self.starts, &self.lengths, 0, 0, self.facts, i)
     }
 
     pub fn step_name<'a>(self, file: &'a [u8], i: usize) -> &'a [u8]
-        ensures { λ r. ⌜ now r ≡ shown (now (file .entry)) (getD ((namesFrom self) .steps) i noPart) ⌝ }
+        ensures { λ r. ⌜ now r ≡ bytesAt (now (file .entry)) (getD ((namePartsFrom self) .steps) i noPart) ⌝ }
     {
         let f = self.facts;
         name_at(file, &self.starts, &self.lengths, f, 0, self.steps, i)
     }
 
     pub fn job_name<'a>(self, file: &'a [u8], i: usize) -> &'a [u8]
-        ensures { λ r. ⌜ now r ≡ shown (now (file .entry)) (getD ((namesFrom self) .jobs) i noPart) ⌝ }
+        ensures { λ r. ⌜ now r ≡ bytesAt (now (file .entry)) (getD ((namePartsFrom self) .jobs) i noPart) ⌝ }
     {
         let f = self.facts;
         let s = self.steps;

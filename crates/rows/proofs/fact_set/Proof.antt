@@ -23,7 +23,7 @@ is-hyphen-requires c κs = (c .before .pre .1, c .before .pre .2)
 
 -- src/lib.rt:51:9
 returns : tie.Need-returns Inv-loop μ-loop
-returns c = names-hyphen _ _ _ (c .before .is-hyphen .ensures) (c .if1 .taken)
+returns c = names-hyphen _ _ _ (facts-few (c .before .before .before .pre .0)) (c .before .is-hyphen .ensures) (c .if1 .taken)
 
 -- src/lib.rt:54:5
 loop-holds : tie.Need-loop-holds Inv-loop μ-loop

@@ -1,18 +1,15 @@
 use Rattle.table.proofs.Table.fact_name.Tie as tie
 use borrow.Author.Needs.{needs}
 use Rattle.table.proofs.Table.fact_name.Statement.{statement}
-use native.Mathlib.Omega.{arith}
-use Prim.Native.Nat.{_+_}
-use Rattle.table.specs.Layout.{partWith}
-use Rattle.table.proofs.Access.{name-told}
+use Rattle.table.proofs.Access.{fact-named}
 
--- src/lib.rt:339:9
+-- src/lib.rt:341:9
 name-at-requires : tie.Need-name-at-requires
 name-at-requires c κs = search needs
 
--- src/lib.rt:336:5
+-- src/lib.rt:338:5
 returns : tie.Need-returns
-returns c = let a = c .before .before .before .before .before .before .before .args in let t = a .t1 in name-told (partWith (t .starts) (t .lengths)) (0 + 0) (0) (t .facts) (a .i) (a .file .now) _ (omega arith) (c .name-at .ensures)
+returns c = let a = c .before .before .before .before .before .before .before .args in fact-named (a .t1) (a .i) (a .file .now) _ (c .name-at .ensures)
 
 pub fact-name-spec : {M : Type 1} → statement M
 fact-name-spec = tie.close (tie.spec name-at-requires returns)

@@ -1,0 +1,15 @@
+use Rattle.table.proofs.Table.jobs.Tie as tie
+use borrow.Author.Needs.{needs}
+use Rattle.table.proofs.Table.jobs.Statement.{statement}
+use Rattle.table.proofs.Access.{jobs-told}
+
+-- src/lib.rt:262:9
+cast-result : tie.Need-cast-result
+cast-result c = search needs
+
+-- src/lib.rt:259:5
+returns : tie.Need-returns
+returns c = jobs-told (c .before .args .self)
+
+pub jobs-spec : {M : Type 1} → statement M
+jobs-spec = tie.close (tie.spec cast-result returns)
