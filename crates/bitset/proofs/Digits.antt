@@ -11,10 +11,10 @@ use lib.Bits.{bitAnd, bitOr, and-step, and-le-l, or-shr, or-mod, shifted-half, s
 use lib.Count.{ones, onesIn, ones-step}
 use lib.Dec.{eqb, eqb·suc-suc, eqb·suc-zero, eqb·zero-suc}
 use lib.Pow.{pow-pos, shr-lt, shr-shr, mod-mod-pow, field}
-use Rattle.bitset.specs.Set.{digit}
+use Rattle.bitset.specs.Set.{bit}
 
 -- a digit is 0 or 1
-pub digit-lt : (w i : ℕ) → digit w i < 2
+pub digit-lt : (w i : ℕ) → bit w i < 2
 digit-lt w i = mod-lt (w / 2 ^ i) (zero-lt-suc 1)
 
 by-digit : (P : ℕ → Type 0) → P 0 → P 1 → (d : ℕ) → d < 2 → P d
@@ -22,24 +22,24 @@ by-digit P p q zero h = p
 by-digit P p q (suc zero) h = q
 by-digit P p q (suc (suc d)) h = absurd (omega arith)
 
-by-digits : (P : ℕ → ℕ → Type 0) → P 0 0 → P 0 1 → P 1 0 → P 1 1 → (w v i : ℕ) → P (digit w i) (digit v i)
+by-digits : (P : ℕ → ℕ → Type 0) → P 0 0 → P 0 1 → P 1 0 → P 1 1 → (w v i : ℕ) → P (bit w i) (bit v i)
 by-digits P p q r s w v i =
-    by-digit (λ (d : ℕ). P d (digit v i)) (by-digit (P 0) p q (digit v i) (digit-lt v i)) (by-digit (P 1) r s (digit v i) (digit-lt v i)) (digit w i)
+    by-digit (λ (d : ℕ). P d (bit v i)) (by-digit (P 0) p q (bit v i) (digit-lt v i)) (by-digit (P 1) r s (bit v i) (digit-lt v i)) (bit w i)
     (digit-lt w i)
 
 -- the lowest digit, and those above it
-digit-low : (w : ℕ) → digit w 0 ≡ w % 2
+digit-low : (w : ℕ) → bit w 0 ≡ w % 2
 digit-low w = ap (λ (x : ℕ). x % 2) (div-one w)
 
-digit-up : (w i : ℕ) → digit w (suc i) ≡ digit (w / 2) i
+digit-up : (w i : ℕ) → bit w (suc i) ≡ bit (w / 2) i
 digit-up w i = let e : suc i ≡ 1 + i = omega arith in rw (e, shr-shr w 1 i)
 
-pub digit-none : (i : ℕ) → digit 0 i ≡ 0
+pub digit-none : (i : ℕ) → bit 0 i ≡ 0
 digit-none zero = refl
 digit-none (suc i) = digit-up 0 i ∙ digit-none i
 
 -- Operations ------------------------------------------------------------------------------------------------------------
-pub digit-or : (w v i : ℕ) → eqb (digit (bitOr w v) i) 1 ≡ (eqb (digit w i) 1 || eqb (digit v i) 1)
+pub digit-or : (w v i : ℕ) → eqb (bit (bitOr w v) i) 1 ≡ (eqb (bit w i) 1 || eqb (bit v i) 1)
 digit-or w v i =
     ap (λ (x : ℕ). eqb x 1) (ap (λ (x : ℕ). x % 2) (or-shr w v i) ∙ or-mod (w / 2 ^ i) (v / 2 ^ i) 1)
     ∙ by-digits (λ (d e : ℕ). eqb (bitOr d e) 1 ≡ (eqb d 1 || eqb e 1)) refl refl refl refl w v i
@@ -50,12 +50,12 @@ minus-half w v = omega (arith, and-step w v, and-le-l (w / 2) (v / 2))
 minus-low : (w v : ℕ) → (w - bitAnd w v) % 2 ≡ w % 2 - min (w % 2) (v % 2)
 minus-low w v = omega (arith, and-step w v, and-le-l (w / 2) (v / 2))
 
-digit-minus : (w v i : ℕ) → digit (w - bitAnd w v) i ≡ digit w i - min (digit w i) (digit v i)
+digit-minus : (w v i : ℕ) → bit (w - bitAnd w v) i ≡ bit w i - min (bit w i) (bit v i)
 digit-minus w v zero = rw (digit-low (w - bitAnd w v), digit-low w, digit-low v) (minus-low w v)
 digit-minus w v (suc i) =
     rw (digit-up (w - bitAnd w v) i, digit-up w i, digit-up v i, minus-half w v) (digit-minus (w / 2) (v / 2) i)
 
-pub digit-without : (w v i : ℕ) → eqb (digit (w - bitAnd w v) i) 1 ≡ (eqb (digit w i) 1 && not (eqb (digit v i) 1))
+pub digit-without : (w v i : ℕ) → eqb (bit (w - bitAnd w v) i) 1 ≡ (eqb (bit w i) 1 && not (eqb (bit v i) 1))
 digit-without w v i =
     ap (λ (x : ℕ). eqb x 1) (digit-minus w v i)
     ∙ by-digits (λ (d e : ℕ). eqb (d - min d e) 1 ≡ (eqb d 1 && not (eqb e 1))) refl refl refl refl w v i
@@ -66,13 +66,13 @@ power-even i = rw (← one-mul (2 ^ suc i)) (shifted-even 1 i)
 power-half : (i : ℕ) → 2 ^ suc i / 2 ≡ 2 ^ i
 power-half i = rw (← one-mul (2 ^ suc i), shifted-half 1 i, one-mul (2 ^ i))
 
-pub digit-power : (i j : ℕ) → eqb (digit (2 ^ i) j) 1 ≡ eqb j i
+pub digit-power : (i j : ℕ) → eqb (bit (2 ^ i) j) 1 ≡ eqb j i
 digit-power zero zero = refl
 digit-power zero (suc j) = ap (λ (x : ℕ). eqb x 1) (digit-up 1 j ∙ digit-none j) ∙ sym (eqb·suc-zero j)
 digit-power (suc i) zero =
     ap (λ (x : ℕ). eqb x 1) (digit-low (2 ^ suc i) ∙ power-even i) ∙ sym (eqb·zero-suc i)
 digit-power (suc i) (suc j) =
-    ap (λ (x : ℕ). eqb x 1) (digit-up (2 ^ suc i) j ∙ ap (λ (x : ℕ). digit x j) (power-half i)) ∙ digit-power i j ∙ sym (eqb·suc-suc j i)
+    ap (λ (x : ℕ). eqb x 1) (digit-up (2 ^ suc i) j ∙ ap (λ (x : ℕ). bit x j) (power-half i)) ∙ digit-power i j ∙ sym (eqb·suc-suc j i)
 
 -- How many digits are set ----------------------------------------------------------------------------------------------
 half-lt : (w n : ℕ) → w < 2 ^ suc n → w / 2 < 2 ^ n

@@ -10,9 +10,9 @@ use lib.Count.{ones}
 use lib.ListN.{length, getD, set, take, drop, length-set, length-append}
 use lib.Seq.{take-all, take-at, drop-cons, set-at, append-snoc}
 use Rattle.lists.specs.List.{filter, from}
-use Rattle.bitset.specs.Set.{contains, membersBelow, members, Listed}
+use Rattle.bitset.specs.Set.{onto, contains, membersBelow, members, Listed}
 use Rattle.bitset.proofs.Members.{below-add, below-member, below-other, below-end, count-word}
-use Rattle.bitset.proofs.Words.{onto, onto-none, onto-more, onto-enough}
+use Rattle.bitset.proofs.Words.{onto-none, onto-more, onto-enough}
 
 -- `size`: n counts the members in the words before k ---------------------------------------------------------------------
 pub record Counted (ws : List ℕ) (n k : ℕ) : Type 0 where

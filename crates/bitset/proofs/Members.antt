@@ -4,7 +4,7 @@ use mathlib.Core.Path.{_≡_, refl, sym, ap, _∙_}
 use mathlib.Core.Bool.{Bool, true, false}
 use mathlib.Core.List.{List, [], _∷_, _++_, append-nil}
 use Prim.Native.Nat.{ℕ, zero, suc, _+_, _-_, _*_, _/_, _%_, _^_, _≤_, _<_, min}
-use native.Mathlib.Nat.{zero-add, suc-add, add-suc, div-one}
+use native.Mathlib.Nat.{zero-add, add-suc, div-one}
 use native.Mathlib.Numerals.{add-one}
 use native.Mathlib.Omega.{arith}
 use lib.Bits.{bitAnd, and-mask}
@@ -17,23 +17,11 @@ use Rattle.lists.specs.List.{consIf, filter, from, upTo}
 use Rattle.lists.proofs.Bool.{leb-cases}
 use Rattle.lists.proofs.Member.{filter-same, length-filter}
 use Rattle.lists.proofs.Number.{upTo-range, length-from}
-use Rattle.bitset.specs.Set.{digit, contains, membersBelow, members}
+use Rattle.bitset.specs.Set.{bit, contains, membersBelow, members}
 use Rattle.bitset.proofs.Digits.{digit-lt, digit-none, onesIn-low}
+use Rattle.lists.proofs.Place.{from-add, filter-append}
 
 -- Numbers in a row -----------------------------------------------------------------------------------------------------
-from-add : (k m n : ℕ) → from k (m + n) ≡ from k m ++ from (k + m) n
-from-add k zero n = let e : k + 0 ≡ k = omega arith in rw (zero-add n, e)
-from-add k (suc m) n = rw (suc-add m n, add-suc k m, ← suc-add k m) (ap (λ (l : List ℕ). k ∷ l) (from-add (suc k) m n))
-
-filter-append : (p : ℕ → Bool) (xs ys : List ℕ) → filter p (xs ++ ys) ≡ filter p xs ++ filter p ys
-filter-append p [] ys = refl
-filter-append p (x ∷ xs) ys = ap (λ (l : List ℕ). consIf (p x) x l) (filter-append p xs ys) ∙ go (p x)
-  where
-    go : (b : Bool) → consIf b x (filter p xs ++ filter p ys) ≡ consIf b x (filter p xs) ++ filter p ys
-    go true = refl
-    go false = refl
-
--- the members below m + n: those below m, then those of the n numbers from m on
 pub below-add : (ws : List ℕ) (m n : ℕ) → membersBelow ws (m + n) ≡ membersBelow ws m ++ filter (contains ws) (from m n)
 below-add ws m n =
     ap (filter (contains ws)) (from-add 0 m n ∙ ap (λ (k : ℕ). from 0 m ++ from k n) (zero-add m))
@@ -48,7 +36,7 @@ below-other ws i f =
     below-add ws i 1 ∙ ap (λ (b : Bool). membersBelow ws i ++ consIf b i []) f ∙ append-nil (membersBelow ws i)
 
 -- Which numbers are members ----------------------------------------------------------------------------------------------
-contains-at : (ws : List ℕ) (k j : ℕ) → j < 64 → contains ws (64 * k + j) ≡ eqb (digit (getD ws k 0) j) 1
+contains-at : (ws : List ℕ) (k j : ℕ) → j < 64 → contains ws (64 * k + j) ≡ eqb (bit (getD ws k 0) j) 1
 contains-at ws k j h =
     let q : (64 * k + j) / 64 ≡ k = omega arith in
     let r : (64 * k + j) % 64 ≡ j = omega arith in
@@ -104,8 +92,8 @@ unfolding onesIn
 count-digits ws k j zero h = refl
 count-digits ws k j (suc m) h =
     rw (contains-at ws k j (omega arith), ← add-suc (64 * k) j)
-    (length-consIf (digit (getD ws k 0) j) (64 * k + j) (filter (contains ws) (from (64 * k + suc j) m)) (digit-lt (getD ws k 0) j)
-    ∙ ap (λ (n : ℕ). digit (getD ws k 0) j + n) (count-digits ws k (suc j) m (omega arith) ∙ ap (onesIn m) (next-digits (getD ws k 0) j)))
+    (length-consIf (bit (getD ws k 0) j) (64 * k + j) (filter (contains ws) (from (64 * k + suc j) m)) (digit-lt (getD ws k 0) j)
+    ∙ ap (λ (n : ℕ). bit (getD ws k 0) j + n) (count-digits ws k (suc j) m (omega arith) ∙ ap (onesIn m) (next-digits (getD ws k 0) j)))
 
 -- the members below digit m of word k
 count-below : (ws : List ℕ) (k m : ℕ) → m ≤ 64 → length (membersBelow ws (64 * k + m)) ≡ length (membersBelow ws (64 * k)) + ones (getD ws k 0 % 2 ^ m)

@@ -19,11 +19,11 @@ use Rattle.lists.proofs.Every.{every-getD}
 use Rattle.lists.proofs.Member.{in-filter-in, in-filter-out, has-in, has-not}
 use Rattle.lists.proofs.Number.{upTo-in}
 use Rattle.lists.proofs.Rising.{rising-filter}
-use Rattle.bitset.specs.Set.{digit, contains, membersBelow, members, inserted, union, difference}
+use Rattle.bitset.specs.Set.{without, onto, bit, contains, membersBelow, members, inserted, union, difference}
 use Rattle.bitset.specs.Promises.{onesOf, Promises}
 use Rattle.bitset.proofs.Digits.{digit-or, digit-without, digit-power}
 use Rattle.bitset.proofs.Members.{below-add, below-end, contains-past, length-below, count-word}
-use Rattle.bitset.proofs.Words.{without, onto, union-onto, difference-onto, length-onto, getD-onto}
+use Rattle.bitset.proofs.Words.{length-onto, getD-onto}
 
 -- Members after an operation -------------------------------------------------------------------------------------------------
 or-none : (a b : Bool) → a ≡ (a || (b && false))
@@ -56,7 +56,7 @@ insert-within ws i j h = go (ℕ-discrete (j / 64) (i / 64))
     go : Dec (j / 64 ≡ i / 64) → contains (inserted ws i) j ≡ (contains ws j || eqb j i)
     go (yes e) =
         rw (e, getD-set-same ws (i / 64) (bitOr w (2 ^ (i % 64))) 0 h)
-        (digit-or w (2 ^ (i % 64)) (j % 64) ∙ ap (λ (b : Bool). eqb (digit w (j % 64)) 1 || b) (digit-power (i % 64) (j % 64) ∙ same-word i j e))
+        (digit-or w (2 ^ (i % 64)) (j % 64) ∙ ap (λ (b : Bool). eqb (bit w (j % 64)) 1 || b) (digit-power (i % 64) (j % 64) ∙ same-word i j e))
     go (no u) =
         rw (getD-set-other ws (i / 64) (j / 64) (bitOr w (2 ^ (i % 64))) 0 u, eqb-other j i (λ q. u (ap (λ (x : ℕ). x / 64) q)))
         (or-none (contains ws j) false)
@@ -70,8 +70,8 @@ insert-member ws i j =
 unite-member : (ws vs : List ℕ) (j : ℕ) → contains (union ws vs) j ≡ (contains ws j || (ltb (j / 64) (length ws) && contains vs j))
 unite-member ws vs j =
     by-word ws j (λ (b : Bool). contains (union ws vs) j ≡ (contains ws j || (b && contains vs j)))
-    (λ h. rw (union-onto ws vs, getD-onto bitOr or-zero-r ws vs (j / 64) h) (digit-or (getD ws (j / 64) 0) (getD vs (j / 64) 0) (j % 64)))
-    (λ h. rw (union-onto ws vs, contains-past ws j h, contains-past (onto bitOr ws vs) j (omega (arith, length-onto bitOr ws vs))))
+    (λ h. rw (getD-onto bitOr or-zero-r ws vs (j / 64) h) (digit-or (getD ws (j / 64) 0) (getD vs (j / 64) 0) (j % 64)))
+    (λ h. rw (contains-past ws j h, contains-past (onto bitOr ws vs) j (omega (arith, length-onto bitOr ws vs))))
 
 without-none : (w : ℕ) → without w 0 ≡ w
 without-none w = omega (arith, and-zero-r w)
@@ -79,8 +79,8 @@ without-none w = omega (arith, and-zero-r w)
 subtract-member : (ws vs : List ℕ) (j : ℕ) → contains (difference ws vs) j ≡ (contains ws j && not (contains vs j))
 subtract-member ws vs j =
     by-word ws j (λ (b : Bool). contains (difference ws vs) j ≡ (contains ws j && not (contains vs j)))
-    (λ h. rw (difference-onto ws vs, getD-onto without without-none ws vs (j / 64) h) (digit-without (getD ws (j / 64) 0) (getD vs (j / 64) 0) (j % 64)))
-    (λ h. rw (difference-onto ws vs, contains-past ws j h, contains-past (onto without ws vs) j (omega (arith, length-onto without ws vs))))
+    (λ h. rw (getD-onto without without-none ws vs (j / 64) h) (digit-without (getD ws (j / 64) 0) (getD vs (j / 64) 0) (j % 64)))
+    (λ h. rw (contains-past ws j h, contains-past (onto without ws vs) j (omega (arith, length-onto without ws vs))))
 
 -- The list of members --------------------------------------------------------------------------------------------------------
 -- a member has a word
@@ -135,9 +135,9 @@ promises =
       insert = insert-member;
       insert-length = λ ws i. length-set ws (i / 64) (bitOr (getD ws (i / 64) 0) (2 ^ (i % 64)));
       unite = unite-member;
-      unite-length = λ ws vs. ap length (union-onto ws vs) ∙ length-onto bitOr ws vs;
+      unite-length = λ ws vs. length-onto bitOr ws vs;
       subtract = subtract-member;
-      subtract-length = λ ws vs. ap length (difference-onto ws vs) ∙ length-onto without ws vs;
+      subtract-length = λ ws vs. length-onto without ws vs;
       rising = λ ws. rising-filter (contains ws) (64 * length ws);
       member = listed-member;
       first = first-members;

@@ -4,30 +4,8 @@ use mathlib.Core.Path.{_≡_, refl, sym, ap}
 use mathlib.Core.List.{List, [], _∷_}
 use Prim.Native.Nat.{ℕ, zero, suc, _-_, _≤_, _<_}
 use native.Mathlib.Omega.{arith}
-use lib.Bits.{bitAnd, bitOr}
 use lib.ListN.{length, getD, set, take}
-use Rattle.bitset.specs.Set.{union, difference}
-
--- the members of v out of the word w
-abbrev pub without : ℕ → ℕ → ℕ
-without w v = w - bitAnd w v
-
-module _ (f : ℕ → ℕ → ℕ) where
-  -- f of each word and its partner; a word that has none stays
-  abbrev pub onto : List ℕ → List ℕ → List ℕ
-  onto [] vs = []
-  onto (w ∷ ws) [] = w ∷ ws
-  onto (w ∷ ws) (v ∷ vs) = f w v ∷ onto ws vs
-
-pub union-onto : (ws vs : List ℕ) → union ws vs ≡ onto bitOr ws vs
-union-onto [] vs = refl
-union-onto (w ∷ ws) [] = refl
-union-onto (w ∷ ws) (v ∷ vs) = ap (λ (l : List ℕ). bitOr w v ∷ l) (union-onto ws vs)
-
-pub difference-onto : (ws vs : List ℕ) → difference ws vs ≡ onto without ws vs
-difference-onto [] vs = refl
-difference-onto (w ∷ ws) [] = refl
-difference-onto (w ∷ ws) (v ∷ vs) = ap (λ (l : List ℕ). without w v ∷ l) (difference-onto ws vs)
+use Rattle.bitset.specs.Set.{onto}
 
 module _ (f : ℕ → ℕ → ℕ) where
   pub length-onto : (ws vs : List ℕ) → length (onto f ws vs) ≡ length ws

@@ -10,12 +10,12 @@ use lib.ListN.{length, getD, set, take, drop}
 use Rattle.lists.specs.List.{filter, upTo}
 
 -- binary digit i of the word w
-abbrev pub digit : ℕ → ℕ → ℕ
-digit w i = w / 2 ^ i % 2
+abbrev pub bit : ℕ → ℕ → ℕ
+bit w i = w / 2 ^ i % 2
 
 -- is i a member? It stands as digit i % 64 of word i / 64; past the last word nothing is one
 abbrev pub contains : List ℕ → ℕ → Bool
-contains ws i = eqb (digit (getD ws (i / 64) 0) (i % 64)) 1
+contains ws i = eqb (bit (getD ws (i / 64) 0) (i % 64)) 1
 
 -- the members below n, rising
 abbrev pub membersBelow : List ℕ → ℕ → List ℕ
@@ -29,17 +29,23 @@ members ws = membersBelow ws (64 * length ws)
 abbrev pub inserted : List ℕ → ℕ → List ℕ
 inserted ws i = set ws (i / 64) (bitOr (getD ws (i / 64) 0) (2 ^ (i % 64)))
 
+-- f of each word and its partner in vs; a word that has none stays
+abbrev pub onto : (ℕ → ℕ → ℕ) → List ℕ → List ℕ → List ℕ
+onto f [] vs = []
+onto f (w ∷ ws) [] = w ∷ ws
+onto f (w ∷ ws) (v ∷ vs) = f w v ∷ onto f ws vs
+
 -- ws with those members of vs for which it has a word
 abbrev pub union : List ℕ → List ℕ → List ℕ
-union [] vs = []
-union (w ∷ ws) [] = w ∷ ws
-union (w ∷ ws) (v ∷ vs) = bitOr w v ∷ union ws vs
+union ws vs = onto bitOr ws vs
+
+-- the word w without the members of v
+abbrev pub without : ℕ → ℕ → ℕ
+without w v = w - bitAnd w v
 
 -- ws without the members of vs
 abbrev pub difference : List ℕ → List ℕ → List ℕ
-difference [] vs = []
-difference (w ∷ ws) [] = w ∷ ws
-difference (w ∷ ws) (v ∷ vs) = (w - bitAnd w v) ∷ difference ws vs
+difference ws vs = onto without ws vs
 
 -- ms written to the front of o, as many as fit: r of them, and what stands after them stays
 pub record Listed (ms o o′ : List ℕ) (r : ℕ) : Type 0 where

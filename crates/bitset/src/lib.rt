@@ -1,4 +1,4 @@
-// Sets of numbers as words: number i is binary digit i % 64 of word i / 64. Every function takes any number of words, and none of them
+// Sets of numbers as words: number i is binary bit i % 64 of word i / 64. Every function takes any number of words, and none of them
 // asks anything of its caller. Each contract gives the result and the later words outright; what that says of members stands in
 // specs/Promises.
 ghost use mathlib.Core.Path.{_≡_};
@@ -18,7 +18,7 @@ pub fn has(ws: &[u64], i: usize) -> bool
     }
 }
 
-// The word whose one digit is that of i.
+// The word whose one bit is that of i.
 fn single(i: usize) -> u64
     ensures { λ r. ⌜ r ≡ 2 ^ (i % 64) ⌝ }
 {

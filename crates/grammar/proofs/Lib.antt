@@ -1,3 +1,4 @@
+-- Computed facts, then laws by topic, then the functions.
 pub mod Computed
 pub mod Bytes
 pub mod Scans

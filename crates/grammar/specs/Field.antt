@@ -1,4 +1,5 @@
--- Where a field stands, and the forms of field as the code names them: what contracts below say, tied to the definitions by proof.
+-- Inside the reader: where a field stands, and the forms of field as the code names them. Contracts cite it; it follows from the
+-- definitions, and nothing here is to be believed.
 -- Assumes nothing.
 use mathlib.Core.Path.{_≡_}
 use mathlib.Core.Bool.{Bool, true, false}

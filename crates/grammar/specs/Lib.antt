@@ -1,4 +1,4 @@
--- The form of a table file: document 01, "The table file", and questions 2 and 3.
+-- The form of a table file: document 01, "The table file", and questions 2 and 3. How to read it: the key at the head of crate `planning`'s specs/Lib.
 --
 -- bytes, names and lists
 pub mod Byte

@@ -10,7 +10,7 @@ use Rattle.lines.specs.Parts.{split}
 use Rattle.grammar.specs.Byte.{tab, ofDepth}
 use Rattle.grammar.specs.Name.{Name, isName, isList, namesIn}
 
--- "The first field is one of six letters."
+-- "The first field is one of six letters"; any other byte is none of them
 pub data Letter : Type 0 where
   F S T M I R other : Letter
 
@@ -18,7 +18,7 @@ abbrev pub pickLetter : Bool → Letter → Letter → Letter
 pickLetter true l m = l
 pickLetter false l m = m
 
--- the letter's byte
+-- the letter's byte; no line is told by that of `other`
 abbrev pub byteOf : Letter → ℕ
 byteOf F = 70
 byteOf S = 83
@@ -33,8 +33,11 @@ unfoldable pub begins : ℕ → List ℕ → Bool
 begins c [] = false
 begins c (b ∷ l) = eqb b c
 
+-- the letter whose byte b is
 unfoldable pub letterOf : ℕ → Letter
-letterOf b = pickLetter (eqb b 70) F (pickLetter (eqb b 83) S (pickLetter (eqb b 84) T (pickLetter (eqb b 77) M (pickLetter (eqb b 73) I (pickLetter (eqb b 82) R other)))))
+letterOf b =
+    pickLetter (eqb b (byteOf F)) F (pickLetter (eqb b (byteOf S)) S (pickLetter (eqb b (byteOf T)) T (pickLetter (eqb b (byteOf M)) M
+    (pickLetter (eqb b (byteOf I)) I (pickLetter (eqb b (byteOf R)) R other)))))
 
 -- the letter of a line: its first byte's
 unfoldable pub letter : List ℕ → Letter
@@ -45,7 +48,7 @@ letter l = letterOf (getD l 0 0)
 pub data Form : Type 0 where
   name list depth : Form
 
--- the forms that the fields after a letter may have
+-- the forms that a line may have after its letter: each is a list of fields, and the line must fit one
 abbrev pub forms : Letter → List (List Form)
 forms F = (name ∷ []) ∷ []
 forms S = (name ∷ list ∷ list ∷ list ∷ []) ∷ []

@@ -14,7 +14,7 @@ use Rattle.grammar.specs.Byte.{lower, ofName, comma, hyphen}
 abbrev pub Name : Type 0
 Name = List ℕ
 
--- "A name is 1 to 12 characters: a lowercase letter, then lowercase letters, digits or hyphens."
+-- "A name is 1 to 12 characters: a lowercase letter, then lowercase letters, digits or hyphens": at most 11 after the first
 unfoldable pub isName : List ℕ → Bool
 unfolding lower ofName
 isName [] = false

@@ -1,4 +1,5 @@
 // The form of a table file: names, lists, fields and lines, and questions 2 and 3. A part is two places of the file, as in crate `lines`.
+// Inside the reader: crate `table` calls what is lent here, and its contracts are the ones that other crates use.
 ghost use mathlib.Core.Path.{_≡_};
 ghost use Prim.Native.Nat.{_≤_};
 ghost use lib.ListN.{length};
@@ -124,7 +125,7 @@ fn is_depth(s: &[u8], a: usize, b: usize) -> bool
     is_of_depth(s[a])
 }
 
-// n: a name; l: a list; any other: the depth.
+// Has the part the form that k stands for: n for a name, l for a list, any other byte for the depth?
 fn has_form(s: &[u8], a: usize, b: usize, k: u8) -> bool
     requires { ⌜ (a ≤ b) × (b ≤ length (now s)) ⌝ }
     ensures { λ r. ⌜ r ≡ hasForm (formOf k) (slice a b (now (s .entry))) ⌝ }
@@ -201,7 +202,7 @@ pub fn are_lines(s: &[u8]) -> bool
 }
 
 // Question 2.
-pub fn is_ended(s: &[u8]) -> bool
+pub fn fits_and_ends(s: &[u8]) -> bool
     ensures { λ r. ⌜ r ≡ met2 (now (s .entry)) ⌝ }
 {
     let n = s.len();

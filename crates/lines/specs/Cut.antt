@@ -1,4 +1,4 @@
--- Where the part that begins at a place ends.
+-- Inside the readers: where the part that begins at a place ends. Contracts cite it; it follows from the definitions of Parts.
 -- Assumes nothing.
 use mathlib.Core.Path.{_≡_}
 use mathlib.Core.List.{List}

@@ -1,4 +1,4 @@
--- Bytes, parts and lines of a file.
+-- Bytes, parts and lines of a file. How to read it: the key at the head of crate `planning`'s specs/Lib.
 --
 -- bytes
 pub mod Bytes

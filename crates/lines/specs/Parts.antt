@@ -8,12 +8,12 @@ use lib.ListN.{length}
 use lib.Seq.{slice}
 use Rattle.lines.specs.Bytes.{LF}
 
--- b in front of the first part
+-- b in front of the first part; dropped where there is none, for then it stands after the last end
 abbrev pub push : ℕ → List (List ℕ) → List (List ℕ)
 push b [] = []
 push b (p ∷ ps) = (b ∷ p) ∷ ps
 
--- b in front of the first part, or an end of it
+-- the byte b in front of the parts: where it parts or ends them a new, empty one begins, and else it joins the first
 abbrev pub putByte : Bool → ℕ → List (List ℕ) → List (List ℕ)
 putByte true b ps = [] ∷ ps
 putByte false b ps = push b ps
@@ -37,7 +37,7 @@ pub record Piece : Type 0 where
 abbrev pub noLine : Piece
 noLine = record { start = 0; bytes = [] }
 
--- the pieces that parts are, each ended by one byte, the first one at k
+-- parts as pieces: the first begins at k, and one byte stands after each
 unfoldable pub placed : ℕ → List (List ℕ) → List Piece
 placed k [] = []
 placed k (p ∷ ps) = record { start = k; bytes = p } ∷ placed (k + length p + 1) ps

@@ -1,3 +1,4 @@
+-- Laws, by topic.
 pub mod Bool
 pub mod Member
 pub mod Every

@@ -71,7 +71,7 @@ from-add k (suc m) n =
     ap (from k) z ∙ ap (λ (l : List ℕ). k ∷ l) (from-add (suc k) m n ∙ ap (λ (j : ℕ). from (suc k) m ++ from j n) y)
 
 -- Tests over numbers ---------------------------------------------------------------------------------------------------------
-filter-append : {A : Type 0} (p : A → Bool) (xs ys : List A) → filter p (xs ++ ys) ≡ filter p xs ++ filter p ys
+pub filter-append : {A : Type 0} (p : A → Bool) (xs ys : List A) → filter p (xs ++ ys) ≡ filter p xs ++ filter p ys
 filter-append p [] ys = refl
 filter-append {A} p (x ∷ xs) ys = go (p x) (filter-append p xs ys)
   where

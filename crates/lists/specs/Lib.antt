@@ -1,3 +1,8 @@
+-- What every crate's definitions share. How to read them: the key at the head of crate `planning`'s specs/Lib.
+--
+-- lists
 pub mod List
+-- questions put one after the other
 pub mod Question
+-- text as bytes, for examples
 pub mod Text

@@ -1,4 +1,5 @@
--- What the code keeps of a file: counts of lines, places of sections, and the parts where names stand.
+-- Inside the reader: what the code keeps of a file, which is counts of lines, places of sections, and the parts where names stand.
+-- Contracts cite it; it follows from the definitions, and nothing here is to be believed.
 -- Assumes nothing.
 use mathlib.Core.Path.{_≡_}
 use mathlib.Core.List.{List}

@@ -1,4 +1,4 @@
--- What the outline of a file says, and the kinds of the code.
+-- Inside the reader: what the outline of a file says, and the kinds of the code. Contracts cite it; it follows from the definitions.
 -- Assumes nothing.
 use mathlib.Core.Path.{_≡_}
 use mathlib.Core.Bool.{Bool}

@@ -13,7 +13,7 @@ unfoldable pub leading : ℕ → List Piece → List Piece
 unfolding begins
 leading c ls = takeWhile (λ l. begins c (l .bytes)) ls
 
--- and the lines from the first on that does not
+-- the others: from the first line on that does not begin with c
 unfoldable pub past : ℕ → List Piece → List Piece
 unfolding begins
 past c ls = dropWhile (λ l. begins c (l .bytes)) ls

@@ -1,5 +1,5 @@
 // The outline of a table file: its sections by counts and places, the parts where names are declared, the look-up of a name, and
-// questions 2 to 6. A part is two places of the file, as in crate `lines`.
+// questions 2 to 6. A part is two places of the file, as in crate `lines`. Inside the reader, as crate `grammar` is.
 ghost use mathlib.Core.Path.{_≡_};
 ghost use Prim.Native.Nat.{_+_, _≤_, _<_};
 ghost use lib.ListN.{length};
@@ -15,13 +15,13 @@ ghost use Rattle.outline.specs.Outlined.{kindOf, Outlined};
 use grammar::are_lines;
 use grammar::count_names;
 use grammar::field_at;
-use grammar::is_ended;
+use grammar::fits_and_ends;
 use grammar::line_begins;
 use lines::cut;
 use lines::is_same;
 
 // How many lines, and the place of the line after them.
-pub struct Run {
+struct Run {
     lines: usize,
     next: usize,
 }
@@ -80,7 +80,7 @@ fn find_shape(s: &[u8]) -> Shape
 }
 
 // Question 4, of the lines from the place a on: one I line, one R line, no more.
-fn is_end(s: &[u8], a: usize) -> bool
+fn ends_in_order(s: &[u8], a: usize) -> bool
     requires { ⌜ a ≤ length (now s) ⌝ }
     ensures { λ r. ⌜ r ≡ isEnd (linesFrom (now (s .entry)) a) ⌝ }
 {
@@ -144,13 +144,13 @@ fn first_unmet(s: &[u8], h: Shape) -> usize
     requires { ⌜ Shaped (now s) (h .facts) (h .steps) (h .jobs) (h .methods) (h .«steps_at») (h .«jobs_at») (h .«methods_at») (h .«ends_at») ⌝ }
     ensures { λ r. ⌜ r ≡ firstUnmet (questions2to5 (now (s .entry))) ⌝ }
 {
-    if !is_ended(s) {
+    if !fits_and_ends(s) {
         return 2;
     }
     if !are_lines(s) {
         return 3;
     }
-    if !is_end(s, h.ends_at) {
+    if !ends_in_order(s, h.ends_at) {
         return 4;
     }
     if !counts_fit(h.facts, h.steps, h.jobs, h.methods) {
@@ -163,7 +163,7 @@ fn first_unmet(s: &[u8], h: Shape) -> usize
 }
 
 // Where a name stands: its first byte's place and its size.
-pub struct Span {
+struct Span {
     start: usize,
     size: usize,
 }
@@ -188,10 +188,13 @@ fn name_of(s: &[u8], a: usize, b: usize) -> Span
     }
 }
 
+// A number for each name that a file may declare: 64 facts, 64 steps and 64 jobs.
+pub type Places = [usize; 192];
+
 // Where the names of the first lines stand: those of F lines, then of S lines, then of T lines.
 pub struct Spans {
-    pub start: [usize; 192],
-    pub size: [usize; 192],
+    pub start: Places,
+    pub size: Places,
 }
 
 // The names that the first n lines declare.
@@ -220,8 +223,8 @@ fn declare(s: &[u8], n: usize) -> Spans
 // The number, among lines lo up to hi, of the line that declares the name from a up to b: their count, where none does.
 fn find<'a>(
     s: &[u8],
-    start: &'a [usize; 192],
-    size: &'a [usize; 192],
+    start: &'a Places,
+    size: &'a Places,
     lo: usize,
     hi: usize,
     a: usize,
@@ -244,13 +247,7 @@ fn find<'a>(
 }
 
 // Question 6, of the names that lines lo up to hi declare.
-fn are_new<'a>(
-    s: &[u8],
-    start: &'a [usize; 192],
-    size: &'a [usize; 192],
-    lo: usize,
-    hi: usize,
-) -> bool
+fn are_new<'a>(s: &[u8], start: &'a Places, size: &'a Places, lo: usize, hi: usize) -> bool
     requires { ⌜ (lo ≤ hi) × (hi ≤ 192) × (hi ≤ length (linesFrom (now s) 0)) × Held (now s) (linesFrom (now s) 0) (now start) (now size) hi ⌝ }
     ensures { λ r. ⌜ r ≡ allNew (namesOf (slice lo hi (linesFrom (now (s .entry)) 0))) ⌝ }
 {
@@ -278,8 +275,8 @@ pub enum Kind {
 // The number of the name from a up to b among those declared in the kind wanted: their count, where it is none of them.
 pub fn look_up<'a>(
     s: &[u8],
-    start: &'a [usize; 192],
-    size: &'a [usize; 192],
+    start: &'a Places,
+    size: &'a Places,
     facts: usize,
     steps: usize,
     jobs: usize,

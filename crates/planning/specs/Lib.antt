@@ -7,7 +7,11 @@
 -- `elim e [ .. | .. ]` goes by cases. Several lines `f .. = ..` are the cases of one definition.
 -- A statement is a type: `≡` is equality, `×` is "and", `(t : Tree) × P t` is "there is a tree t with P t", `→` is "if .. then" and
 -- "for every", `↔` is "exactly when", `⊎` is "or", `⊥` is never so, `Unit` always. A record whose fields are statements says all of them.
--- `pub`, `abbrev`, `unfoldable`, `mutual` and `{0}` tell the checker how to treat a definition and mean nothing here.
+-- `pub`, `abbrev`, `unfoldable`, `unfolding`, `mutual` and `{0}` tell the checker how to treat a definition and mean nothing here.
+-- `let x = e in ..` names e. `map f l` is f of each member; `take n l` and `drop n l` are the first n members and the others; `slice a b l`
+-- is the members from place a up to, not including, b; `set l i x` is l with x at place i; `replicate n x` is n times x. A field whose name
+-- has `_` is written `r .«a_b»`. In a contract `⌜ .. ⌝` holds a statement, `λ r.` names the result, and `now (s .entry)` and
+-- `now (s .exit)` are what a lent slice holds before and after the call.
 --
 -- what a table is, and what its reader promises of it
 pub mod Table

@@ -42,7 +42,7 @@ placing-more {tasks} {every} {ms} {m} {k} {o₀} {o} {ok} {n} u =
     }
 
 pub placing-done : {tasks every : List Name} {k : ℕ} {o₀ o : List ℕ} {ok : Bool} {n : ℕ} → Placing tasks every [] k o₀ o ok n → BodyMeans tasks every k o₀ o ok n
-placing-done {tasks} {every} {k} {o₀} {o} {ok} {n} u = record { told = sym (and-on ok) ∙ u .told; size = omega (arith, u .size); text = u .text }
+placing-done {tasks} {every} {k} {o₀} {o} {ok} {n} u = record { told = sym (and-on ok) ∙ u .told; size = omega (arith, u .size); contents = u .text }
 
 -- The scan of the body from a up to b: i is where the names left begin --------------------------------------------------------
 pub record Bodying (tasks : List Name) (s : List ℕ) (a b : ℕ) (k : ℕ) (o₀ o : List ℕ) (ok : Bool) (n i : ℕ) : Type 0 where
@@ -73,7 +73,7 @@ module _ {tasks : List Name} {s : List ℕ} {a b k : ℕ} {o₀ o : List ℕ} {o
 
 pub body-hyphen : (tasks : List Name) (f : List ℕ) (k : ℕ) (o : List ℕ) (r : Bool) → r ≡ isHyphen f → r ≡ true → BodyMeans tasks (namesIn f) k o o true 0
 unfolding namesIn
-body-hyphen tasks f k o r e y = rw (← e, y) (record { told = refl; size = refl; text = refl })
+body-hyphen tasks f k o r e y = rw (← e, y) (record { told = refl; size = refl; contents = refl })
 
 pub body-parts : {tasks : List Name} {k : ℕ} {o o′ : List ℕ} {ok : Bool} {n : ℕ} (f : List ℕ) (r : Bool) → r ≡ isHyphen f → r ≡ false
     → BodyMeans tasks (split comma f) k o o′ ok n → BodyMeans tasks (namesIn f) k o o′ ok n

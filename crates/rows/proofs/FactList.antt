@@ -13,7 +13,7 @@ use Rattle.lists.specs.List.{all, has, upTo, noneTwice, filter}
 use Rattle.lists.proofs.Bool.{and-on, or-off, clash, and-l}
 use Rattle.lists.proofs.Member.{filter-same, has-not, in-map-out, all-out}
 use Rattle.lists.proofs.Order.{ne-lt}
-use Rattle.bitset.specs.Set.{digit, contains, inserted}
+use Rattle.bitset.specs.Set.{bit, contains, inserted}
 use Rattle.bitset.proofs.Digits.{digit-none}
 use Rattle.bitset.proofs.Promises.{promises}
 use Rattle.lines.specs.Parts.{split}
@@ -23,7 +23,7 @@ use Rattle.grammar.specs.Byte.{comma}
 use Rattle.grammar.specs.Name.{Name, isHyphen, namesIn}
 use Rattle.outline.specs.Names.{among, numberOf}
 use Rattle.outline.proofs.Names.{among-in, among-out}
-use Rattle.rows.specs.Uses.{isFacts, factsOf}
+use Rattle.rows.specs.Uses.{areFacts, factsOf}
 use Rattle.rows.specs.Answers.{FactsMean}
 use Rattle.lists.proofs.Place.{filter-enough}
 use Rattle.rows.proofs.Counts.{number-in}
@@ -87,15 +87,15 @@ unfolding fresh
 fresh-none [] = refl
 fresh-none (k ∷ ks) = fresh-none ks
 
-ok-facts : (fs ms : List Name) → okFrom fs [] ms ≡ isFacts fs ms
-unfolding isFacts
+ok-facts : (fs ms : List Name) → okFrom fs [] ms ≡ areFacts fs ms
+unfolding areFacts
 ok-facts fs ms = rw (ok-is fs [] ms, fresh-none (map (numberOf fs) ms), and-on)
 
 -- The set so far -------------------------------------------------------------------------------------------------------------
 -- ws has the numbers of the names passed, of all the names `every`; ms are left
 pub record Adding (fs every ms : List Name) (ws : List ℕ) : Type 0 where
   pub done : List ℕ
-  pub told : okFrom fs done ms ≡ isFacts fs every
+  pub told : okFrom fs done ms ≡ areFacts fs every
   pub word : (k : ℕ) → contains ws k ≡ has done k
   pub sum : (k : ℕ) → (has done k || has (map (numberOf fs) ms) k) ≡ has (map (numberOf fs) every) k
   pub wide : length ws ≡ 1
@@ -103,7 +103,7 @@ pub record Adding (fs every ms : List Name) (ws : List ℕ) : Type 0 where
 no-member : (k : ℕ) → contains (0 ∷ []) k ≡ false
 no-member k = go (k / 64)
   where
-    go : (i : ℕ) → eqb (digit (getD (0 ∷ []) i 0) (k % 64)) 1 ≡ false
+    go : (i : ℕ) → eqb (bit (getD (0 ∷ []) i 0) (k % 64)) 1 ≡ false
     go zero = rw (digit-none (k % 64))
     go (suc i) = rw (digit-none (k % 64))
 
@@ -111,11 +111,11 @@ pub adding-first : (fs ms : List Name) → Adding fs ms ms (0 ∷ [])
 adding-first fs ms = record { done = []; told = ok-facts fs ms; word = no-member; sum = λ k. refl; wide = refl }
 
 module _ {fs every ms : List Name} {m : Name} {ws : List ℕ} (u : Adding fs every (m ∷ ms) ws) where
-  pub adding-out : length fs ≤ numberOf fs m → false ≡ isFacts fs every
+  pub adding-out : length fs ≤ numberOf fs m → false ≡ areFacts fs every
   unfolding okFrom
   adding-out h = let e : okFrom fs (u .done) (m ∷ ms) ≡ false = rw (among-out fs m h) in sym e ∙ u .told
 
-  pub adding-twice : numberOf fs m < length fs → contains ws (numberOf fs m) ≡ true → false ≡ isFacts fs every
+  pub adding-twice : numberOf fs m < length fs → contains ws (numberOf fs m) ≡ true → false ≡ areFacts fs every
   unfolding okFrom
   adding-twice h t = let e : okFrom fs (u .done) (m ∷ ms) ≡ false = rw (among-in fs m h, sym (u .word (numberOf fs m)) ∙ t) in sym e ∙ u .told
 
@@ -139,8 +139,8 @@ module _ {fs every ms : List Name} {m : Name} {ws : List ℕ} (u : Adding fs eve
       or-comm false false = refl
 
 -- no number of a declared fact lies at or past their count
-past-none : (fs every : List Name) → isFacts fs every ≡ true → (k : ℕ) → length fs ≤ k → has (map (numberOf fs) every) k ≡ false
-unfolding isFacts
+past-none : (fs every : List Name) → areFacts fs every ≡ true → (k : ℕ) → length fs ≤ k → has (map (numberOf fs) every) k ≡ false
+unfolding areFacts
 past-none fs every e k h = has-not (map (numberOf fs) every) k (λ i.
     let r = in-map-out (numberOf fs) k every i in
     let a = all-out (among fs) every (and-l (all (among fs) every) (noneTwice eqb (map (numberOf fs) every)) e) (r .0) (r .1) in
@@ -159,7 +159,7 @@ adding-done {fs} {every} {ws} l u =
       wide = u .wide;
     }
 
-pub facts-off : {fs every : List Name} {ws : List ℕ} → length ws ≡ 1 → false ≡ isFacts fs every → FactsMean fs every false ws
+pub facts-off : {fs every : List Name} {ws : List ℕ} → length ws ≡ 1 → false ≡ areFacts fs every → FactsMean fs every false ws
 facts-off w e = record { told = e; set = λ t. clash t (sym e); wide = w }
 
 -- The scan of the list from a up to b: i is where the names left begin -------------------------------------------------------
@@ -176,11 +176,11 @@ module _ {fs : List Name} {s : List ℕ} {a b i e k : ℕ} {ws : List ℕ} (u : 
   here : (ps : List (List ℕ)) × Adding fs (split comma (slice a b s)) (slice i e s ∷ ps) ws
   here = (cut-first c h .0, rw (cut-first c h .1) at (u .adding))
 
-  pub listing-out : length fs ≤ k → false ≡ isFacts fs (split comma (slice a b s))
+  pub listing-out : length fs ≤ k → false ≡ areFacts fs (split comma (slice a b s))
   listing-out l = adding-out (here .1) (omega arith)
 
   module _ (l : k < length fs) where
-    pub listing-twice : contains ws k ≡ true → false ≡ isFacts fs (split comma (slice a b s))
+    pub listing-twice : contains ws k ≡ true → false ≡ areFacts fs (split comma (slice a b s))
     listing-twice t = adding-twice (here .1) (omega arith) (rw (← q) t)
 
     module _ (m : length fs ≤ 64) (t : contains ws k ≡ false) where

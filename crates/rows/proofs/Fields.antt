@@ -12,7 +12,7 @@ use Rattle.grammar.specs.Name.{Name, namesIn}
 use Rattle.grammar.specs.Line.{field, nameIn, needsIn, setsIn, clearsIn, bodyIn}
 use Rattle.grammar.specs.Field.{At}
 use Rattle.outline.specs.Names.{among, numberOf}
-use Rattle.rows.specs.Uses.{isFacts, usesFacts, usesTasks}
+use Rattle.rows.specs.Uses.{areFacts, usesFacts, usesTasks}
 use Rattle.rows.specs.Row.{readStep}
 use Rattle.rows.specs.Answers.{FactsMean, StepMeans, BodyMeans, MethodMeans}
 
@@ -25,9 +25,9 @@ pub step-means : (fs : List Name) (l : List ℕ) (o₁ o₂ o₃ q r : Bool) (x 
     → FactsMean fs (namesIn (field l 4)) o₃ z → q ≡ (o₂ && o₃) → r ≡ (o₁ && q) → StepMeans fs l r x y z
 unfolding usesFacts readStep needsIn setsIn clearsIn
 step-means fs l o₁ o₂ o₃ q r x y z f g h e d =
-    let a = isFacts fs (needsIn l) in
-    let b = isFacts fs (setsIn l) in
-    let c = isFacts fs (clearsIn l) in
+    let a = areFacts fs (needsIn l) in
+    let b = areFacts fs (setsIn l) in
+    let c = areFacts fs (clearsIn l) in
     record {
       told = d ∙ ap₂ _&&_ (f .told) (e ∙ ap₂ _&&_ (g .told) (h .told));
       step = λ t. λ i. record {
@@ -58,7 +58,7 @@ method-means jobs tasks l k o o′ t ok r j n e y f d = record {
   told = d ∙ ap₂ _&&_ y (f .told);
   owner = e;
   size = f .size;
-  text = f .text;
+  contents = f .contents;
 }
 
 pub body-room : (k n : ℕ) {m c : ℕ} → k + m ≤ c → n ≡ m → k + n ≤ c

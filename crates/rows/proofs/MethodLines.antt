@@ -74,7 +74,7 @@ module _ {jobs tasks : List Name} {ls : List Piece} {ok : Bool} {owners sizes bo
       → Methoding jobs tasks ls r (set owners i j) (set sizes i n) bodies′ (i + 1)
   methoding-more l t r j n bodies′ e m d = record {
     telling = telling-more t r (u .telling) h (m .told ∙ ap (uses jobs tasks) e) d;
-    wide = (length-set owners i j ∙ u .wide .0, length-set sizes i n ∙ u .wide .1, ap length (m .text) ∙ length-stored bodies (i * 8) (numbers l) ∙ u .wide .2);
+    wide = (length-set owners i j ∙ u .wide .0, length-set sizes i n ∙ u .wide .1, ap length (m .contents) ∙ length-stored bodies (i * 8) (numbers l) ∙ u .wide .2);
     owner = λ k o. whose k o (le-or-lt i k);
     size = λ k o. wide k o (le-or-lt i k);
     task = λ k y o p. tasked k y o p (le-or-lt i k);
@@ -97,11 +97,11 @@ module _ {jobs tasks : List Name} {ls : List Piece} {ok : Bool} {owners sizes bo
           let p₁ : y < length (bodyIn (l .bytes)) = rw (e, ← q) p in
           let c : length (bodyIn (l .bytes)) ≤ 8 = rw e (body-short ls f i h) in
           let w : length (numbers l) ≡ length (bodyIn (l .bytes)) = length-map (bodyIn (l .bytes)) (numberOf tasks) in
-          rw (q, ← e, m .text)
+          rw (q, ← e, m .contents)
           (stored-in bodies (i * 8) (numbers l) y (omega (arith, w)) (omega (arith, w, u .wide .2)) ∙ getD-map-in (numberOf tasks) (bodyIn (l .bytes)) y [] 0 p₁)
       tasked k y o p (inr z) =
           let c : length (body ls k) ≤ 8 = body-short ls f k (omega arith) in
-          ap (λ (b : List ℕ). getD b (k * 8 + y) 0) (m .text) ∙ stored-before bodies (i * 8) (numbers l) (k * 8 + y) (omega arith) ∙ u .task k y z p
+          ap (λ (b : List ℕ). getD b (k * 8 + y) 0) (m .contents) ∙ stored-before bodies (i * 8) (numbers l) (k * 8 + y) (omega arith) ∙ u .task k y z p
 
 pub methoding-done : {jobs tasks : List Name} {ls : List Piece} {ok : Bool} {owners sizes bodies : List ℕ} {i : ℕ} → Methoding jobs tasks ls ok owners sizes bodies i → length ls ≤ i
     → MethodsMean jobs tasks ls ok owners sizes bodies

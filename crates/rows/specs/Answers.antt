@@ -1,4 +1,5 @@
--- What the answers of the code's inner functions mean.
+-- Inside the reader: what the answers of its functions mean. Contracts cite it; it follows from the definitions, and nothing here is
+-- to be believed.
 -- Assumes nothing.
 use mathlib.Core.Path.{_≡_}
 use mathlib.Core.Bool.{Bool, true, _&&_}
@@ -16,7 +17,7 @@ use Rattle.outline.specs.Names.{among, numberOf, fact, job, task, declared}
 use Rattle.outline.specs.Questions.{short, met4}
 use Rattle.outline.specs.Index.{Shaped, Indexed}
 use Rattle.outline.specs.declared.Shape.{Shape}
-use Rattle.rows.specs.Uses.{isFacts, usesFacts, usesTasks, factsOf}
+use Rattle.rows.specs.Uses.{areFacts, usesFacts, usesTasks, factsOf}
 use Rattle.rows.specs.Row.{readStep}
 
 -- what questions 2 to 6, met, tell of a file: its shape and its names are known, and within the limits
@@ -32,8 +33,8 @@ pub record Ready (s : List ℕ) (h : Shape) (starts sizes : List ℕ) : Type 0 w
 
 -- a list of facts: is question 7 met, and if so the set
 pub record FactsMean (facts ns : List Name) (ok : Bool) (ws : List ℕ) : Type 0 where
-  pub told : ok ≡ isFacts facts ns
-  pub set : isFacts facts ns ≡ true → members ws ≡ factsOf facts ns
+  pub told : ok ≡ areFacts facts ns
+  pub set : areFacts facts ns ≡ true → members ws ≡ factsOf facts ns
   pub wide : length ws ≡ 1
 
 -- the step that three sets of facts are
@@ -61,14 +62,14 @@ stored l k (x ∷ xs) = stored (set l k x) (suc k) xs
 pub record BodyMeans (tasks ns : List Name) (k : ℕ) (o o′ : List ℕ) (ok : Bool) (n : ℕ) : Type 0 where
   pub told : ok ≡ all (among tasks) ns
   pub size : n ≡ length ns
-  pub text : o′ ≡ stored o k (map (numberOf tasks) ns)
+  pub contents : o′ ≡ stored o k (map (numberOf tasks) ns)
 
 -- an M line, likewise
 pub record MethodMeans (jobs tasks : List Name) (l : List ℕ) (k : ℕ) (o o′ : List ℕ) (ok : Bool) (j n : ℕ) : Type 0 where
   pub told : ok ≡ usesTasks jobs tasks l
   pub owner : j ≡ numberOf jobs (nameIn l)
   pub size : n ≡ length (bodyIn l)
-  pub text : o′ ≡ stored o k (map (numberOf tasks) (bodyIn l))
+  pub contents : o′ ≡ stored o k (map (numberOf tasks) (bodyIn l))
 
 -- some M lines, with eight places for each line's body
 pub record MethodsMean (jobs tasks : List Name) (ls : List Piece) (ok : Bool) (owners sizes bodies : List ℕ) : Type 0 where
@@ -80,7 +81,7 @@ pub record MethodsMean (jobs tasks : List Name) (ls : List Piece) (ok : Bool) (o
 
 -- the I line and the R line
 pub record EndsMean (p : Sections) (ok : Bool) (ws : List ℕ) (j k : ℕ) : Type 0 where
-  pub told : ok ≡ (isFacts (declared p fact) (startIn (startLine p)) && among (declared p job) (nameIn (rootLine p)))
-  pub set : isFacts (declared p fact) (startIn (startLine p)) ≡ true → members ws ≡ factsOf (declared p fact) (startIn (startLine p))
+  pub told : ok ≡ (areFacts (declared p fact) (startIn (startLine p)) && among (declared p job) (nameIn (rootLine p)))
+  pub set : areFacts (declared p fact) (startIn (startLine p)) ≡ true → members ws ≡ factsOf (declared p fact) (startIn (startLine p))
   pub root : j ≡ numberOf (declared p job) (nameIn (rootLine p))
   pub depth : k ≡ depthIn (rootLine p)

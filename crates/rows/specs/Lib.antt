@@ -1,4 +1,4 @@
--- The lines of a table file as numbers: used names, and question 7.
+-- The lines of a table file as numbers: used names, and question 7. How to read it: the key at the head of crate `planning`'s specs/Lib.
 --
 -- used names, and question 7
 pub mod Uses

@@ -13,14 +13,14 @@ use Rattle.outline.specs.Sections.{Sections, startLine, rootLine}
 use Rattle.outline.specs.Names.{among, numberOf, fact, job as jobKind, task, declared}
 
 -- "every used name declared in the kind wanted there, and no fact twice in a list": a list of facts
-unfoldable pub isFacts : List Name → List Name → Bool
+unfoldable pub areFacts : List Name → List Name → Bool
 unfolding among numberOf
-isFacts facts ns = all (among facts) ns && noneTwice eqb (map (numberOf facts) ns)
+areFacts facts ns = all (among facts) ns && noneTwice eqb (map (numberOf facts) ns)
 
 -- S: three lists of facts
 unfoldable pub usesFacts : List Name → List ℕ → Bool
-unfolding isFacts needsIn setsIn clearsIn
-usesFacts facts l = isFacts facts (needsIn l) && (isFacts facts (setsIn l) && isFacts facts (clearsIn l))
+unfolding areFacts needsIn setsIn clearsIn
+usesFacts facts l = areFacts facts (needsIn l) && (areFacts facts (setsIn l) && areFacts facts (clearsIn l))
 
 -- M: a job, and "a list of steps and jobs"
 unfoldable pub usesTasks : List Name → List Name → List ℕ → Bool
@@ -29,10 +29,10 @@ usesTasks jobs tasks l = among jobs (nameIn l) && all (among tasks) (bodyIn l)
 
 -- "7. Is every used name declared in the kind wanted there, and no fact twice in a list?"
 unfoldable pub met7 : Sections → Bool
-unfolding declared usesFacts usesTasks isFacts startIn among nameIn
+unfolding declared usesFacts usesTasks areFacts startIn among nameIn
 met7 p =
     all (λ l. usesFacts (declared p fact) (l .bytes)) (p .steps) && (all (λ l. usesTasks (declared p jobKind) (declared p task) (l .bytes)) (p .methods)
-    && (isFacts (declared p fact) (startIn (startLine p)) && among (declared p jobKind) (nameIn (rootLine p))))
+    && (areFacts (declared p fact) (startIn (startLine p)) && among (declared p jobKind) (nameIn (rootLine p))))
 
 -- From names to numbers ------------------------------------------------------------------------------------------------------
 -- a list of facts, which "may stand in any order", as the set that it is

@@ -1,5 +1,6 @@
 // The lines of a table file as numbers, and question 7: fact lists as sets, bodies as tasks, the start, the root job and the depth. Every
-// function asks that questions 2 to 6 are met (`Ready`); the read of crate `table` puts them first.
+// function asks that questions 2 to 6 are met (`Ready`); the read of crate `table` puts them first. Inside the reader, as crate
+// `grammar` is.
 ghost use mathlib.Core.Path.{_≡_};
 ghost use mathlib.Core.Bool.{_&&_};
 ghost use Prim.Native.Nat.{_+_, _-_, _≤_};
@@ -15,12 +16,14 @@ use grammar::field_at;
 use grammar::is_hyphen;
 use lines::cut;
 use outline::Kind;
+use outline::Places;
 use outline::Shape;
 use outline::look_up;
 
 // A set of facts: a word for each 64 of them.
 pub type FactSet = [u64; 1];
 
+// Both: as a call, so that what follows has one way to come.
 pub fn both(a: bool, b: bool) -> bool
     ensures { λ r. ⌜ r ≡ (a && b) ⌝ }
 {
@@ -28,7 +31,7 @@ pub fn both(a: bool, b: bool) -> bool
 }
 
 // A list of facts: whether question 7 is met, and the set.
-pub struct Facts {
+struct Facts {
     ok: bool,
     set: FactSet,
 }
@@ -36,8 +39,8 @@ pub struct Facts {
 // The list of facts from a up to b.
 fn fact_set<'a>(
     s: &[u8],
-    start: &'a [usize; 192],
-    size: &'a [usize; 192],
+    start: &'a Places,
+    size: &'a Places,
     h: Shape,
     a: usize,
     b: usize,
@@ -68,7 +71,7 @@ fn fact_set<'a>(
 }
 
 // An S line: whether question 7 is met, and its sets.
-pub struct StepSets {
+struct StepSets {
     ok: bool,
     needs: FactSet,
     sets: FactSet,
@@ -78,8 +81,8 @@ pub struct StepSets {
 // The S line from a up to b.
 fn step_sets<'a>(
     s: &[u8],
-    start: &'a [usize; 192],
-    size: &'a [usize; 192],
+    start: &'a Places,
+    size: &'a Places,
     h: Shape,
     a: usize,
     b: usize,
@@ -112,7 +115,7 @@ pub struct Steps {
     pub clears: [u64; 64],
 }
 
-pub fn read_steps<'a>(s: &[u8], start: &'a [usize; 192], size: &'a [usize; 192], h: Shape) -> Steps
+pub fn read_steps<'a>(s: &[u8], start: &'a Places, size: &'a Places, h: Shape) -> Steps
     requires { ⌜ Ready (now s) h (now start) (now size) ⌝ }
     ensures { λ r. ⌜ StepsMean (declared (sections (linesOf (now (s .entry)))) fact) ((sections (linesOf (now (s .entry)))) .steps) (r .ok) (r .needs) (r .sets) (r .clears) ⌝ }
 {
@@ -141,7 +144,7 @@ pub fn read_steps<'a>(s: &[u8], start: &'a [usize; 192], size: &'a [usize; 192],
 }
 
 // A body: whether question 7 is met, and how many tasks it has.
-pub struct Body {
+struct Body {
     ok: bool,
     size: usize,
 }
@@ -149,8 +152,8 @@ pub struct Body {
 // The body from a up to b: its tasks' numbers go to the buffer from the place at on.
 fn read_body<'a>(
     s: &[u8],
-    start: &'a [usize; 192],
-    size: &'a [usize; 192],
+    start: &'a Places,
+    size: &'a Places,
     h: Shape,
     a: usize,
     b: usize,
@@ -180,7 +183,7 @@ fn read_body<'a>(
 }
 
 // An M line: whether question 7 is met, its job, and how many tasks its body has.
-pub struct Method {
+struct Method {
     ok: bool,
     owner: usize,
     size: usize,
@@ -189,8 +192,8 @@ pub struct Method {
 // The M line from a up to b: its body's tasks go to the buffer from the place at on.
 fn read_method<'a>(
     s: &[u8],
-    start: &'a [usize; 192],
-    size: &'a [usize; 192],
+    start: &'a Places,
+    size: &'a Places,
     h: Shape,
     a: usize,
     b: usize,
@@ -229,12 +232,7 @@ pub struct Methods {
     pub bodies: [u8; 1024],
 }
 
-pub fn read_methods<'a>(
-    s: &[u8],
-    start: &'a [usize; 192],
-    size: &'a [usize; 192],
-    h: Shape,
-) -> Methods
+pub fn read_methods<'a>(s: &[u8], start: &'a Places, size: &'a Places, h: Shape) -> Methods
     requires { ⌜ Ready (now s) h (now start) (now size) ⌝ }
     ensures { λ r. ⌜ MethodsMean (declared (sections (linesOf (now (s .entry)))) job) (declared (sections (linesOf (now (s .entry)))) task) ((sections (linesOf (now (s .entry)))) .methods) (r .ok) (r .owners) (r .sizes) (r .bodies) ⌝ }
 {
@@ -269,10 +267,10 @@ fn digit_of(s: &[u8], a: usize, b: usize) -> usize
     if a == b {
         return 0;
     }
-    if s[a] < 48 {
+    if s[a] < b'0' {
         return 0;
     }
-    (s[a] - 48) as usize
+    (s[a] - b'0') as usize
 }
 
 // The I line and the R line: whether question 7 is met, the set, the root job and the depth.
@@ -283,7 +281,7 @@ pub struct Ends {
     pub depth: usize,
 }
 
-pub fn read_ends<'a>(s: &[u8], start: &'a [usize; 192], size: &'a [usize; 192], h: Shape) -> Ends
+pub fn read_ends<'a>(s: &[u8], start: &'a Places, size: &'a Places, h: Shape) -> Ends
     requires { ⌜ Ready (now s) h (now start) (now size) ⌝ }
     ensures { λ r. ⌜ EndsMean (sections (linesOf (now (s .entry)))) (r .ok) (r .start) (r .root) (r .depth) ⌝ }
 {

@@ -183,9 +183,9 @@ name-in starts sizes s r n i k x y h p q e = rw (lt-ltb i n h) (e ∙ ap₂ (λ 
 name-told : (f : ℕ → Part) (k k′ n i : ℕ) (s r : List ℕ) → k ≡ k′ → r ≡ bytesAt s (cond (ltb i n) (f (k + i)) noPart) → r ≡ bytesAt s (getD (map f (from k′ n)) i noPart)
 name-told f k k′ n i s r e q =
     let same : cond (ltb i n) (f (k + i)) noPart ≡ getD (map f (from k′ n)) i noPart = ⊎-elim
-        (λ h. rw (le-ltb i n h) (sym (getD-map-past f k′ n i noPart h)))
-        (λ h. rw (lt-ltb i n h, e) (sym (getD-map-from f k′ n i noPart h)))
-        (le-or-lt n i) in
+    (λ h. rw (le-ltb i n h) (sym (getD-map-past f k′ n i noPart h)))
+    (λ h. rw (lt-ltb i n h, e) (sym (getD-map-from f k′ n i noPart h)))
+    (le-or-lt n i) in
     q ∙ ap (bytesAt s) same
 
 module _ (t : Table) (i : ℕ) (s r : List ℕ) where

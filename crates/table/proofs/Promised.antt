@@ -25,7 +25,7 @@ use Rattle.outline.specs.Questions.{short, met4, met5, met6, questions2to5, wit
 use Rattle.outline.specs.Part.{partOf}
 use Rattle.table.specs.Reading.{NameParts, namePartsOf, readTable, Reading, refused, passed, verdict, questions2to7, reading}
 use Rattle.outline.specs.Outlined.{questions2to6}
-use Rattle.rows.specs.Uses.{isFacts, usesFacts, usesTasks, met7, factsOf, taskOf}
+use Rattle.rows.specs.Uses.{areFacts, usesFacts, usesTasks, met7, factsOf, taskOf}
 use Rattle.rows.specs.Row.{readStep, readMethod}
 use Rattle.table.specs.Promises.{Promised, Promises, namesAt}
 use Rattle.table.proofs.Depth.{deep-root, all-past}
@@ -76,7 +76,7 @@ module _ (ls : List Piece) (e3 : met3 ls ≡ true) (e4 : met4 (sections ls) ≡ 
       let rise : (ns : List Name) → Rising 0 (length (p .facts)) (factsOf facts ns) = λ ns. facts-rising (p .facts) ns in
       let uf : Piece → Bool = λ l. usesFacts facts (l .bytes) in
       let ut : Piece → Bool = λ l. usesTasks jobs (steps ++ jobs) (l .bytes) in
-      let st = isFacts facts (startIn (startLine p)) in
+      let st = areFacts facts (startIn (startLine p)) in
       let ro = among jobs (nameIn (rootLine p)) in
       let later = and-r (all uf (p .steps)) (all ut (p .methods) && (st && ro)) e7 in
       let nj = names-length (p .jobs) in
@@ -194,13 +194,13 @@ promised s e =
     let b = stands-all s (p .steps) (stands-leading s 83 ss rs) in
     let c = stands-all s (p .jobs) (stands-leading s 84 ts rt) in
     let named : namesOf (p .facts) ++ (namesOf (p .steps) ++ namesOf (p .jobs)) ≡ namesAt s (map partOf (p .facts)) ++ (namesAt s (map partOf (p .steps)) ++ namesAt s (map partOf (p .jobs)))
-        = sym (ap₂ _++_ a (ap₂ _++_ b c)) in
+    = sym (ap₂ _++_ a (ap₂ _++_ b c)) in
     let fs = m .third in
     let fss = all-past (λ l. isLine (l .bytes)) 70 ls fs in
     let fts = all-past (λ l. isLine (l .bytes)) 83 ss fss in
     let isN : Name → Type 0 = λ n. isName n ≡ true in
     let every = every-append isN (namesOf (p .facts)) (namesOf (p .steps) ++ namesOf (p .jobs)) (names-formed F [] refl (λ l. begins-F l) ls fs)
-        (every-append isN (namesOf (p .steps)) (namesOf (p .jobs)) (names-formed S (list ∷ list ∷ list ∷ []) refl (λ l. begins-S l) ss fss) (names-formed T [] refl (λ l. begins-T l) ts fts)) in
+    (every-append isN (namesOf (p .steps)) (namesOf (p .jobs)) (names-formed S (list ∷ list ∷ list ∷ []) refl (λ l. begins-S l) ss fss) (names-formed T [] refl (λ l. begins-T l) ts fts)) in
     record {
       sound = sound ls (m .third) (m .fourth) (m .seventh);
       limits = limits ls (m .third) (m .fourth) (m .fifth);

@@ -19,7 +19,7 @@ use Rattle.outline.specs.Outlined.{Outlined, questions2to6}
 use Rattle.outline.specs.declared.Outline.{Outline}
 use Rattle.outline.proofs.Outlined.{Met2to5, met-2to6}
 use Rattle.outline.proofs.Questions.{fifth, counts-small, method-lines}
-use Rattle.rows.specs.Uses.{met7, isFacts, usesFacts, usesTasks}
+use Rattle.rows.specs.Uses.{met7, areFacts, usesFacts, usesTasks}
 use Rattle.rows.specs.Answers.{Ready, StepsMean, MethodsMean, EndsMean}
 use Rattle.rows.specs.declared.Steps.{Steps}
 use Rattle.rows.specs.declared.Methods.{Methods}
@@ -105,7 +105,7 @@ module _ {s : List ℕ} {o : Outline} (u : Outlined s o) where
           let h = o .shape in
           let t₁ = all (λ l. usesFacts (declared p fact) (l .bytes)) (p .steps) in
           let t₂ = all (λ l. usesTasks (declared p job) (declared p task) (l .bytes)) (p .methods) in
-          let t₃ = isFacts (declared p fact) (startIn (startLine p)) in
+          let t₃ = areFacts (declared p fact) (startIn (startLine p)) in
           let t₄ = among (declared p job) (nameIn (rootLine p)) in
           let i = ready .indexed in
           let ss = steps-read (declared p fact) (p .steps) (x .needs) (x .sets) (x .clears) (x .ok) (h .steps) (i .steps) a (and-l t₁ (t₂ && (t₃ && t₄)) t) in

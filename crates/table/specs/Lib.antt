@@ -1,4 +1,4 @@
--- What a table file is read as: document 01, "The table file", and questions 2 to 7.
+-- What a table file is read as: document 01, "The table file", and questions 2 to 7. How to read it: the key at the head of crate `planning`'s specs/Lib.
 --
 -- the first unmet question, or the table and where its names stand
 pub mod Reading

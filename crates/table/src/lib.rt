@@ -11,6 +11,7 @@ ghost use Rattle.bitset.specs.Set.{members};
 ghost use Rattle.planning.specs.Table.{stepOf, jobOf, bodyOf};
 ghost use Rattle.lines.specs.Part.{bytesAt};
 ghost use Rattle.table.specs.Layout.{tableFrom, namePartsFrom, taskAt, taskFrom, noTable, tableWith, partWith, noPart, Reads};
+use outline::Places;
 use outline::Shape;
 use outline::Spans;
 use outline::outline_of;
@@ -29,8 +30,8 @@ pub struct Table {
     steps: u8,
     jobs: u8,
     methods: u8,
-    starts: [usize; 192],
-    lengths: [usize; 192],
+    starts: Places,
+    lengths: Places,
     needs: [u64; 64],
     sets: [u64; 64],
     clears: [u64; 64],
@@ -103,8 +104,8 @@ fn no_table() -> Table
     }
 }
 
-// Question 7, of the S lines, of the M lines, and of the I and R lines.
-fn seventh(a: bool, b: bool, c: bool) -> usize
+// Question 7, from its answers for the S lines, for the M lines, and for the I and R lines.
+fn question_seven(a: bool, b: bool, c: bool) -> usize
     ensures { λ r. ⌜ r ≡ cond (a && (b && c)) 0 7 ⌝ }
 {
     if both(a, both(b, c)) { 0 } else { 7 }
@@ -126,7 +127,7 @@ pub fn read(file: &[u8]) -> Outcome
     let x = read_steps(file, &n.start, &n.size, h);
     let m = read_methods(file, &n.start, &n.size, h);
     let e = read_ends(file, &n.start, &n.size, h);
-    let q = seventh(x.ok, m.ok, e.ok);
+    let q = question_seven(x.ok, m.ok, e.ok);
     if q != 0 {
         return Outcome {
             question: q,
@@ -158,7 +159,7 @@ fn place_at(a: &[usize], i: usize) -> usize
     if i < a.len() { a[i] } else { 0 }
 }
 
-// The same below n, and nothing from n on: word i as a set, and byte i.
+// Word i of the first n as a set, and byte i of the first n: the empty set and 0 from n on.
 fn set_below(a: &[u64], n: u8, i: usize) -> FactSet
     ensures { λ r. ⌜ r ≡ cond (ltb i n) (getD (now (a .entry)) i 0) 0 ∷ [] ⌝ }
 {
@@ -178,7 +179,8 @@ fn byte_below(a: &[u8], n: u8, i: usize) -> usize
     0
 }
 
-// Byte j of the eight of method m, below n methods.
+// Byte j of the eight that method m of n has. A body has fewer places than a byte has values, so no place asked for in earnest is
+// past 256, and below that nothing wraps.
 fn body_byte(a: &[u8], n: u8, m: usize, j: usize) -> u8
     ensures { λ r. ⌜ r ≡ cond (ltb m n && ltb j 256) (getD (now (a .entry)) (m * 8 + j) 0) 0 ⌝ }
 {
@@ -206,7 +208,7 @@ fn part<'a>(s: &'a [u8], start: usize, size: usize) -> &'a [u8]
     &s[start..e]
 }
 
-// Name i of n, of those that stand after a and b others: the part of the file where it was declared.
+// Name i of a kind that has n names, which stand after a + b names of other kinds: the part of the file where it was declared.
 fn name_at<'a, 'b>(
     file: &'a [u8],
     starts: &'b [usize],

@@ -1,10 +1,10 @@
 -- `bitset::has` meets its contract. By the digit where there is a word, and by there being no member past the words.
 -- Assumes nothing.
+use Rattle.bitset.proofs.has.Tie as tie
 use borrow.Author.Needs.{needs}
 use mathlib.Core.Path.{refl, sym}
 use Rattle.bitset.proofs.Members.{contains-past}
 use Rattle.bitset.proofs.has.Statement.{statement}
-use Rattle.bitset.proofs.has.Tie as tie
 
 mul-result : tie.Need-mul-result
 mul-result c = search needs

@@ -1,5 +1,6 @@
 -- `bitset::insert` meets its contract. By what `single` gives; where there is no word, the store would be outside.
 -- Assumes nothing.
+use Rattle.bitset.proofs.insert.Tie as tie
 use borrow.Author.Needs.{needs}
 use mathlib.Core.Path.{sym, ap}
 use Prim.Native.Nat.{ℕ, _/_}
@@ -7,7 +8,6 @@ use lib.Bits.{bitOr}
 use lib.ListN.{getD, set}
 use lib.Seq.{set-out}
 use Rattle.bitset.proofs.insert.Statement.{statement}
-use Rattle.bitset.proofs.insert.Tie as tie
 
 mul-ws : tie.Need-mul-ws
 mul-ws c = search needs

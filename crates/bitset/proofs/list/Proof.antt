@@ -1,5 +1,6 @@
 -- `bitset::list` meets its contract. The loop's invariant: the members below i stand at the front. The measure is the numbers left.
 -- Assumes nothing.
+use Rattle.bitset.proofs.list.Tie as tie
 use borrow.Author.Needs.{needs}
 use borrow.Author.Tests.{ltb-true, ltb-false}
 use mathlib.Core.Path.{sym, _∙_}
@@ -9,7 +10,6 @@ use native.Mathlib.Omega.{arith}
 use lib.ListN.{length}
 use Rattle.bitset.proofs.Loops.{Written, written-none, written-member, written-other, written-full, written-all}
 use Rattle.bitset.proofs.list.Statement.{statement}
-use Rattle.bitset.proofs.list.Tie as tie
 
 abbrev Inv-loop : tie.InvT-loop
 Inv-loop ws n out₀ e r₀ i₀ out r i = Written ws out₀ out e r i

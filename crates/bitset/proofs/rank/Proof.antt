@@ -1,5 +1,6 @@
 -- `bitset::rank` meets its contract. The members in the words before that of i are counted by `size`, those in its word by its digits below that of i.
 -- Assumes nothing.
+use Rattle.bitset.proofs.rank.Tie as tie
 use borrow.Author.Needs.{needs}
 use mathlib.Core.Path.{sym}
 use Prim.Native.Nat.{_/_}
@@ -8,7 +9,6 @@ use lib.Pow.{pow-pos}
 use lib.Seq.{length-take-le}
 use Rattle.bitset.proofs.Members.{length-below, rank-within, rank-past}
 use Rattle.bitset.proofs.rank.Statement.{statement}
-use Rattle.bitset.proofs.rank.Tie as tie
 
 slice-aggregate-size : tie.Need-slice-aggregate-size
 slice-aggregate-size c =

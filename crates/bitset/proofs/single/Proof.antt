@@ -1,5 +1,6 @@
 -- `bitset::single` meets its contract. A shift by less than 64 loses nothing.
 -- Assumes nothing.
+use Rattle.bitset.proofs.single.Tie as tie
 use mathlib.Core.Path.{_∙_}
 use Prim.Native.Nat.{_%_}
 use native.Mathlib.Nat.{one-mul}
@@ -8,7 +9,6 @@ use lib.Dec.{lit<}
 use lib.Pow.{shl-exact}
 use borrow.Author.Needs.{needs}
 use Rattle.bitset.proofs.single.Statement.{statement}
-use Rattle.bitset.proofs.single.Tie as tie
 
 shl-result : tie.Need-shl-result
 shl-result c = search needs

@@ -1,5 +1,6 @@
 -- `bitset::size` meets its contract. The loop's invariant: n counts the members in the words before k. The measure is the words left.
 -- Assumes nothing.
+use Rattle.bitset.proofs.size.Tie as tie
 use borrow.Author.Needs.{needs}
 use Prim.Native.Nat.{_-_}
 use native.Mathlib.Omega.{arith}
@@ -7,7 +8,6 @@ use lib.Count.{ones-le}
 use lib.ListN.{length}
 use Rattle.bitset.proofs.Loops.{Counted, counted-none, counted-word, counted-all}
 use Rattle.bitset.proofs.size.Statement.{statement}
-use Rattle.bitset.proofs.size.Tie as tie
 
 abbrev Inv-loop : tie.InvT-loop
 Inv-loop ws n₀ k₀ n k = Counted ws n k

@@ -1,15 +1,14 @@
 -- `bitset::subtract` meets its contract. The loop's invariant: the words before k are rid of their partners' members. The measure is the words left.
 -- Assumes nothing.
+use Rattle.bitset.proofs.subtract.Tie as tie
 use borrow.Author.Needs.{needs}
 use borrow.Author.Tests.{ltb-true, ltb-false}
-use mathlib.Core.Path.{sym, _∙_}
 use Prim.Native.Nat.{_-_}
 use lib.Bits.{and-le-l}
 use lib.ListN.{length}
-use Rattle.bitset.proofs.Words.{without, difference-onto}
+use Rattle.bitset.specs.Set.{without}
 use Rattle.bitset.proofs.Loops.{Combined, combined-none, combined-word, combined-partners, combined-words}
 use Rattle.bitset.proofs.subtract.Statement.{statement}
-use Rattle.bitset.proofs.subtract.Tie as tie
 
 abbrev Inv-loop : tie.InvT-loop
 Inv-loop ws₀ vs k₀ ws k = Combined without ws₀ vs ws k
@@ -55,16 +54,14 @@ same-length c = search needs
 
 returns : tie.Need-returns Inv-loop μ-loop
 returns c =
-    let a = c .before .before .before .args in
-    combined-partners (c .before .before .loop .inv) (ltb-false _ _ (c .if1 .left)) ∙ sym (difference-onto (a .ws .now) (a .vs .now))
+    combined-partners (c .before .before .loop .inv) (ltb-false _ _ (c .if1 .left))
 
 same-length-2 : tie.Need-same-length-2 Inv-loop μ-loop
 same-length-2 c = search needs
 
 returns-2 : tie.Need-returns-2 Inv-loop μ-loop
 returns-2 c =
-    let a = c .before .before .args in
-    combined-words (c .before .loop .inv) (c .loop-test .left) ∙ sym (difference-onto (a .ws .now) (a .vs .now))
+    combined-words (c .before .loop .inv) (c .loop-test .left)
 
 pub subtract-spec : {M : Type 1} → statement M
 subtract-spec =

@@ -28,8 +28,8 @@ read-ends-requires : tie.Need-read-ends-requires
 read-ends-requires c κs = ready (c .before .before .before .before .before .before .before .before .before .before .before .before .before .before .before .outline-of .ensures) (c .before .before .before .before .before .before .before .before .before .before .before .before .before .if1 .left)
 
 -- src/lib.rt:129:9
-seventh-requires : tie.Need-seventh-requires
-seventh-requires c κs = search needs
+question-seven-requires : tie.Need-question-seven-requires
+question-seven-requires c κs = search needs
 
 -- src/lib.rt:133:20
 no-table-requires-2 : tie.Need-no-table-requires-2
@@ -37,7 +37,7 @@ no-table-requires-2 c κs = search needs
 
 -- src/lib.rt:131:9
 returns-2 : tie.Need-returns-2
-returns-2 c = read-seventh (c .before .before .before .before .before .before .before .before .before .before .before .before .before .before .before .before .before .before .before .outline-of .ensures) (c .before .before .before .before .before .before .before .before .before .before .before .before .before .before .before .before .before .if1 .left) _ _ _ (c .before .before .before .before .before .before .before .before .before .before .before .read-steps .ensures) (c .before .before .before .before .before .before .before .read-methods .ensures) (c .before .before .before .read-ends .ensures) _ _ (c .before .before .seventh .ensures) (c .no-table2 .ensures) (c .before .if2 .taken)
+returns-2 c = read-seventh (c .before .before .before .before .before .before .before .before .before .before .before .before .before .before .before .before .before .before .before .outline-of .ensures) (c .before .before .before .before .before .before .before .before .before .before .before .before .before .before .before .before .before .if1 .left) _ _ _ (c .before .before .before .before .before .before .before .before .before .before .before .read-steps .ensures) (c .before .before .before .before .before .before .before .read-methods .ensures) (c .before .before .before .read-ends .ensures) _ _ (c .before .before .question-seven .ensures) (c .no-table2 .ensures) (c .before .if2 .taken)
 
 -- src/lib.rt:138:16
 table-of-requires : tie.Need-table-of-requires
@@ -45,7 +45,7 @@ table-of-requires c κs = let u = ready (c .before .before .before .before .befo
 
 -- src/lib.rt:114:1
 returns-3 : tie.Need-returns-3
-returns-3 c = read-late (c .before .before .before .before .before .before .before .before .before .before .before .before .before .before .before .before .before .before .before .outline-of .ensures) (c .before .before .before .before .before .before .before .before .before .before .before .before .before .before .before .before .before .if1 .left) _ _ _ (c .before .before .before .before .before .before .before .before .before .before .before .read-steps .ensures) (c .before .before .before .before .before .before .before .read-methods .ensures) (c .before .before .before .read-ends .ensures) _ _ (c .before .before .seventh .ensures) (c .before .if2 .left) (c .table-of .ensures)
+returns-3 c = read-late (c .before .before .before .before .before .before .before .before .before .before .before .before .before .before .before .before .before .before .before .outline-of .ensures) (c .before .before .before .before .before .before .before .before .before .before .before .before .before .before .before .before .before .if1 .left) _ _ _ (c .before .before .before .before .before .before .before .before .before .before .before .read-steps .ensures) (c .before .before .before .before .before .before .before .read-methods .ensures) (c .before .before .before .read-ends .ensures) _ _ (c .before .before .question-seven .ensures) (c .before .if2 .left) (c .table-of .ensures)
 
 pub read-spec : {M : Type 1} → statement M
 read-spec =
@@ -57,7 +57,7 @@ read-spec =
     read-steps-requires
     read-methods-requires
     read-ends-requires
-    seventh-requires
+    question-seven-requires
     no-table-requires-2
     returns-2
     table-of-requires

@@ -1,6 +1,6 @@
-use Rattle.table.proofs.seventh.Tie as tie
+use Rattle.table.proofs.question_seven.Tie as tie
 use borrow.Author.Needs.{needs}
-use Rattle.table.proofs.seventh.Statement.{statement}
+use Rattle.table.proofs.question_seven.Statement.{statement}
 use Rattle.table.proofs.Whole.{seventh-met, seventh-unmet}
 
 -- src/lib.rt:109:16
@@ -19,5 +19,5 @@ returns c = let a = c .before .before .before .args in seventh-met (a .a) (a .b)
 returns-2 : tie.Need-returns-2
 returns-2 c = let a = c .before .before .before .args in seventh-unmet (a .a) (a .b) (a .c) (c .before .both2 .ensures) (c .before .before .both .ensures) (c .if1 .left)
 
-pub seventh-spec : {M : Type 1} → statement M
-seventh-spec = tie.close (tie.spec both-requires both-requires-2 returns returns-2)
+pub question-seven-spec : {M : Type 1} → statement M
+question-seven-spec = tie.close (tie.spec both-requires both-requires-2 returns returns-2)

@@ -1,5 +1,5 @@
-use Rattle.outline.proofs.is_end.Tie as tie
-use Rattle.outline.proofs.is_end.Statement.{statement}
+use Rattle.outline.proofs.ends_in_order.Tie as tie
+use Rattle.outline.proofs.ends_in_order.Statement.{statement}
 use Prim.Native.Nat.{_-_}
 use native.Mathlib.Omega.{arith}
 use Rattle.lines.proofs.Lines.{from-last}
@@ -55,8 +55,8 @@ cut-requires-3 c κs = (ne-lt-one (c .before .before .before .cut2 .ensures .hig
 returns-5 : tie.Need-returns-5
 returns-5 c = ends-last (c .before .before .before .before .before .before .before .before .cut .ensures) (c .before .before .before .before .before .before .before .if1 .left) (c .before .before .before .before .cut2 .ensures) (c .before .before .before .if3 .left) (said-yes (c .before .before .before .before .before .before .line-begins .ensures) (c .before .before .before .before .before .if2 .left)) (said-yes (c .before .before .line-begins2 .ensures) (c .before .if4 .left)) (c .cut3 .ensures)
 
-pub is-end-spec : {M : Type 1} → statement M
-is-end-spec =
+pub ends-in-order-spec : {M : Type 1} → statement M
+ends-in-order-spec =
     tie.close
     (tie.spec
     cut-requires

@@ -1,6 +1,6 @@
-use Rattle.grammar.proofs.is_ended.Tie as tie
+use Rattle.grammar.proofs.fits_and_ends.Tie as tie
 use borrow.Author.Needs.{needs}
-use Rattle.grammar.proofs.is_ended.Statement.{statement}
+use Rattle.grammar.proofs.fits_and_ends.Statement.{statement}
 use Rattle.grammar.proofs.Files.{ended-long, ended-empty, ended-byte}
 
 -- src/lib.rt:226:9
@@ -23,6 +23,6 @@ shared-slice-read-result c = search needs
 returns-3 : tie.Need-returns-3
 returns-3 c = ended-byte _ (c .before .before .if1 .left)
 
-pub is-ended-spec : {M : Type 1} → statement M
-is-ended-spec =
+pub fits-and-ends-spec : {M : Type 1} → statement M
+fits-and-ends-spec =
     tie.close (tie.spec returns returns-2 sub-result shared-slice-read-result returns-3)
