@@ -6,6 +6,7 @@ use mathlib.Core.List.{List, [], _∷_}
 use Prim.Native.Nat.{ℕ}
 use lib.ListN.{length}
 use Rattle.lists.specs.List.{_∈_, Distinct, Every}
+use Rattle.lists.specs.Text.{bytes}
 use Rattle.planning.specs.Table.{Task, step, job, Step, Method, Table}
 use Rattle.planning.specs.Tree.{Tree, treeSteps, initial, run}
 use Rattle.planning.specs.Variable.{factVar, firstFactVar, variables}
@@ -78,13 +79,9 @@ ten =
     shown ∷ deeper ∷ emptyBody ∷ withoutMethods ∷ serveAndLift ∷ serveAndLiftDeeper ∷ twice ∷ needsOpen ∷ needsOpenAtStart ∷ setsAndClears
     ∷ []
 
--- "p cnf 5 9", "1 0", "-1 2 0", "-2 1 0", "-2 3 0", "1 -3 0", "-4 0", "-3 5 0", "-4 5 0", "4 -5 3 0", LF after each
+-- what document 01 shows that program `formula` writes
 abbrev pub shownText : List ℕ
-shownText =
-    112 ∷ 32 ∷ 99 ∷ 110 ∷ 102 ∷ 32 ∷ 53 ∷ 32 ∷ 57 ∷ 10 ∷ 49 ∷ 32 ∷ 48 ∷ 10 ∷ 45 ∷ 49 ∷ 32 ∷ 50 ∷ 32 ∷ 48 ∷ 10
-    ∷ 45 ∷ 50 ∷ 32 ∷ 49 ∷ 32 ∷ 48 ∷ 10 ∷ 45 ∷ 50 ∷ 32 ∷ 51 ∷ 32 ∷ 48 ∷ 10 ∷ 49 ∷ 32 ∷ 45 ∷ 51 ∷ 32 ∷ 48 ∷ 10
-    ∷ 45 ∷ 52 ∷ 32 ∷ 48 ∷ 10 ∷ 45 ∷ 51 ∷ 32 ∷ 53 ∷ 32 ∷ 48 ∷ 10 ∷ 45 ∷ 52 ∷ 32 ∷ 53 ∷ 32 ∷ 48 ∷ 10
-    ∷ 52 ∷ 32 ∷ 45 ∷ 53 ∷ 32 ∷ 51 ∷ 32 ∷ 48 ∷ 10 ∷ []
+shownText = bytes "p cnf 5 9\n1 0\n-1 2 0\n-2 1 0\n-2 3 0\n1 -3 0\n-4 0\n-3 5 0\n-4 5 0\n4 -5 3 0\n"
 
 -- What is said of them ---------------------------------------------------------------------------------------------------
 pub record Marked : Type 0 where

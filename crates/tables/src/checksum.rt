@@ -1,11 +1,14 @@
 // A checksum of all that the calls of a table hand out, so that a wrong number, set, body or name part shows. After each name, set and
 // body comes a number that cannot stand in it, so that it also counts where one ends and the next begins.
+ghost use Prim.Native.Nat.{_<_};
 use table::FactSet;
 use table::Table;
 use table::Task;
 
 // Both are cut to 32 binary digits first, so that nothing wraps.
-fn fold(h: u64, x: u64) -> u64 {
+fn fold(h: u64, x: u64) -> u64
+    ensures { λ r. ⌜ r < 4294967296 ⌝ }
+{
     ((h % 4294967296) * 31 + x % 4294967296) % 4294967296
 }
 
@@ -114,7 +117,9 @@ fn fold_methods(h: u64, t: Table) -> u64 {
     g
 }
 
-pub fn checksum(t: Table, file: &[u8]) -> u64 {
+pub fn checksum(t: Table, file: &[u8]) -> u64
+    ensures { λ r. ⌜ r < 4294967296 ⌝ }
+{
     let facts = fold_facts(0, t, file);
     let steps = fold_steps(facts, t, file);
     let jobs = fold_jobs(steps, t, file);
