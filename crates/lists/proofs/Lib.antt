@@ -7,3 +7,4 @@ pub mod Rising
 pub mod Order
 pub mod Question
 pub mod Place
+pub mod Written

@@ -4,5 +4,7 @@
 pub mod List
 -- questions put one after the other
 pub mod Question
+-- what a write into a buffer leaves
+pub mod Written
 -- text as bytes, for examples
 pub mod Text
