@@ -22,6 +22,7 @@ use Rattle.lists.proofs.Rising.{rising-filter}
 use Rattle.bitset.specs.Set.{without, onto, bit, contains, membersBelow, members, inserted, union, difference}
 use Rattle.bitset.specs.Promises.{onesOf, Promises}
 use Rattle.bitset.proofs.Digits.{digit-or, digit-without, digit-power}
+use Rattle.bitset.proofs.Made.{made-members, made-whole}
 use Rattle.bitset.proofs.Members.{below-add, below-end, contains-past, length-below, count-word}
 use Rattle.bitset.proofs.Words.{length-onto, getD-onto}
 
@@ -144,4 +145,6 @@ promises =
       place = place-member;
       at-most = λ ws. length-below ws (64 * length ws);
       digits = count-digits;
+      made = made-members insert-member;
+      whole = λ ws h. made-whole insert-member ws h (rising-filter (contains ws) (64 * length ws)) (listed-member ws);
     }

@@ -8,7 +8,7 @@ use lib.Count.{ones}
 use lib.Dec.{eqb, ltb}
 use lib.ListN.{length, getD, take}
 use Rattle.lists.specs.List.{Every, has, Rising}
-use Rattle.bitset.specs.Set.{contains, membersBelow, members, inserted, union, difference}
+use Rattle.bitset.specs.Set.{contains, membersBelow, members, inserted, setOf, union, difference}
 
 -- how many digits are set in all the words
 abbrev pub onesOf : List ℕ → ℕ
@@ -32,3 +32,6 @@ pub record Promises : Type 0 where
   -- at most 64 members a word, so that no count of fewer than 2^58 words wraps; and as many as digits are set
   pub at-most : (ws : List ℕ) → length (members ws) ≤ 64 * length ws
   pub digits : (ws : List ℕ) → Every (λ (w : ℕ). w < 2 ^ 64) ws → length (members ws) ≡ onesOf ws
+  -- a set has the members that it was made of, and its words are those of its members
+  pub made : (n : ℕ) (is : List ℕ) → Rising 0 (64 * n) is → members (setOf n is) ≡ is
+  pub whole : (ws : List ℕ) → Every (λ (w : ℕ). w < 2 ^ 64) ws → setOf (length ws) (members ws) ≡ ws

@@ -6,7 +6,7 @@ use mathlib.Core.List.{List, [], _∷_, _++_}
 use Prim.Native.Nat.{ℕ, _-_, _*_, _/_, _%_, _^_, min}
 use lib.Bits.{bitAnd, bitOr}
 use lib.Dec.{eqb}
-use lib.ListN.{length, getD, set, take, drop}
+use lib.ListN.{length, getD, set, take, drop, replicate}
 use Rattle.lists.specs.List.{filter, upTo}
 
 -- binary digit i of the word w
@@ -28,6 +28,11 @@ members ws = membersBelow ws (64 * length ws)
 -- ws with i as a member; as it was, where it has no word for i
 abbrev pub inserted : List ℕ → ℕ → List ℕ
 inserted ws i = set ws (i / 64) (bitOr (getD ws (i / 64) 0) (2 ^ (i % 64)))
+
+-- the set of these numbers, in n words
+abbrev pub setOf : ℕ → List ℕ → List ℕ
+setOf n [] = replicate n 0
+setOf n (i ∷ is) = inserted (setOf n is) i
 
 -- f of each word and its partner in vs; a word that has none stays
 abbrev pub onto : (ℕ → ℕ → ℕ) → List ℕ → List ℕ → List ℕ
