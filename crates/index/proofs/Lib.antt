@@ -1,0 +1,4 @@
+-- Blocks of words, and what the index has where.
+pub mod Blocks
+pub mod Known
+pub mod Looked
