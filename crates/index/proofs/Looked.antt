@@ -17,7 +17,7 @@ use Rattle.places.specs.Lookup.{recordAt, firstVar, ChildIn}
 use Rattle.places.proofs.Lookup.{node-at, nodes-length}
 use Rattle.places.proofs.Literals.{nodeIn}
 use Rattle.places.proofs.Literals
-use Rattle.index.specs.Index.{nodeWords, meanings, slotNodes, source, indexOf, nodesIn, slotsIn, slotNodeIn, meaningIn}
+use Rattle.index.specs.Index.{nodeWords, meanings, slotNodes, source, indexOf, nodesIn, slotsIn, slotNodeIn, meaningIn, SlotAt, ChildAt}
 use Rattle.index.proofs.Known.{behind, nodes-end}
 
 -- Slots --------------------------------------------------------------------------------------------------------------------------
@@ -60,11 +60,6 @@ module _ (T : Table) where
       go true k h f = slot-before T r qs n b (getD (slotNodes T (suc n) qs) k 0) (getD (slotsFrom T (b + own T r) qs) k []) (f k h)
       go false zero h f = here
       go false (suc k) h f = slot-before T r qs n b (getD (slotNodes T (suc n) qs) k 0) (getD (slotsFrom T (b + own T r) qs) k []) (f k (omega arith))
-
--- slot k is the node c
-pub record SlotAt (T : Table) (k c : ℕ) : Type 0 where
-  pub inside : c < length ((source T) .nodes)
-  pub same : slotAt (source T) k ≡ number ((nodeAt (source T) c) .first) ((nodeAt (source T) c) .steps)
 
 module _ (T : Table) where
   slot-at : (k : ℕ) → k < length ((source T) .slots) → SlotAt T k (getD (slotNodes T 0 (records T)) k 0)
@@ -148,13 +143,6 @@ module _ (T : Table) where
         ∙ getD-append-add (N .steps) (N .jobs ++ N .methods) (length (N .jobs) + x) 0 ∙ getD-append-add (N .jobs) (N .methods) x 0
 
 -- Children -----------------------------------------------------------------------------------------------------------------------
--- child y of node n is a node, and the index has it as one
-pub record ChildAt (T : Table) (n y : ℕ) : Type 0 where
-  pub inside : (childAt (nodeAt (source T) n) y) .node < length ((source T) .nodes)
-  pub first : (childAt (nodeAt (source T) n) y) .first ≡ (nodeAt (source T) ((childAt (nodeAt (source T) n) y) .node)) .first
-  pub steps : (childAt (nodeAt (source T) n) y) .steps ≡ (nodeAt (source T) ((childAt (nodeAt (source T) n) y) .node)) .steps
-  pub jobs : (childAt (nodeAt (source T) n) y) .jobs ≡ (nodeAt (source T) ((childAt (nodeAt (source T) n) y) .node)) .jobs
-
 pub child-at : (T : Table) → T .root < T .jobs → (n y : ℕ) → n < length ((source T) .nodes) → y < length ((nodeAt (source T) n) .children) → ChildAt T n y
 child-at T root n y h l =
     let rs = records T in

@@ -1,15 +1,16 @@
 -- Inside the encoding: what the cursor looks up, worked out of a table's records once a call and kept as words. Nothing to believe: what
 -- is made of it is planning's formula. Assumes nothing.
+use mathlib.Core.Path.{_≡_}
 use mathlib.Core.Bool.{cond}
 use mathlib.Core.List.{List, [], _∷_, _++_, map}
-use Prim.Native.Nat.{ℕ, suc, _+_, _-_, _*_, _≤_}
+use Prim.Native.Nat.{ℕ, suc, _+_, _-_, _*_, _≤_, _<_}
 use lib.ListN.{length, getD}
-use Rattle.lists.specs.List.{concatMap, upTo}
+use Rattle.lists.specs.List.{concatMap, number, upTo}
 use Rattle.bitset.specs.Set.{setOf}
 use Rattle.planning.specs.Table.{Table}
 use Rattle.planning.specs.Record.{Record, records}
 use Rattle.places.specs.Flat.{Node, inner}
-use Rattle.places.specs.ClausePlace.{Source, childAt, sourceOf}
+use Rattle.places.specs.ClausePlace.{Source, childAt, nodeAt, slotAt, sourceOf}
 
 -- a set in one word
 abbrev pub wordOf : List ℕ → ℕ
@@ -66,3 +67,16 @@ meaningIn ix v = getD ix (3 + 15 * nodesIn ix + slotsIn ix + (v - 1)) 0
 pub record Few (ix : List ℕ) : Type 0 where
   pub nodes : nodesIn ix ≤ 1024
   pub slots : slotsIn ix ≤ 1024
+
+-- What is known of it ----------------------------------------------------------------------------------------------------------
+-- slot k is the node c
+pub record SlotAt (T : Table) (k c : ℕ) : Type 0 where
+  pub inside : c < length ((source T) .nodes)
+  pub same : slotAt (source T) k ≡ number ((nodeAt (source T) c) .first) ((nodeAt (source T) c) .steps)
+
+-- child y of node n is a node, and the index has it as one
+pub record ChildAt (T : Table) (n y : ℕ) : Type 0 where
+  pub inside : (childAt (nodeAt (source T) n) y) .node < length ((source T) .nodes)
+  pub first : (childAt (nodeAt (source T) n) y) .first ≡ (nodeAt (source T) ((childAt (nodeAt (source T) n) y) .node)) .first
+  pub steps : (childAt (nodeAt (source T) n) y) .steps ≡ (nodeAt (source T) ((childAt (nodeAt (source T) n) y) .node)) .steps
+  pub jobs : (childAt (nodeAt (source T) n) y) .jobs ≡ (nodeAt (source T) ((childAt (nodeAt (source T) n) y) .node)) .jobs

@@ -1,0 +1,2 @@
+-- Inside the encoding: how long the loops are that the cursor goes through.
+pub mod Shape

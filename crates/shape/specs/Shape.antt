@@ -1,0 +1,29 @@
+-- Inside the encoding: a table and its index. Nothing to believe.
+-- Assumes nothing.
+use mathlib.Core.Path.{_≡_}
+use mathlib.Core.List.{List}
+use Prim.Native.Nat.{ℕ, _<_}
+use lib.ListN.{length}
+use Rattle.planning.specs.Table.{Table}
+use Rattle.planning.specs.Accepted.{Accepted}
+use Rattle.places.specs.Flat.{Node}
+use Rattle.places.specs.ClausePlace.{nodeAt}
+use Rattle.index.specs.Index.{source, indexOf}
+
+-- an accepted table, and its index
+pub record Indexed (T : Table) (ix : List ℕ) : Type 0 where
+  pub accepted : Accepted T
+  pub index : ix ≡ indexOf T
+
+-- node n of it, and that there is one
+abbrev pub node : Table → ℕ → Node
+node T n = nodeAt (source T) n
+
+pub record InNode (T : Table) (ix : List ℕ) (n : ℕ) : Type 0 where
+  pub indexed : Indexed T ix
+  pub there : n < length ((source T) .nodes)
+
+-- slot n of it
+pub record InSlot (T : Table) (ix : List ℕ) (n : ℕ) : Type 0 where
+  pub indexed : Indexed T ix
+  pub there : n < length ((source T) .slots)

@@ -1,0 +1,3 @@
+-- What the writer's contracts say beside `planning`'s Text.
+-- a literal as one number
+pub mod Literal
