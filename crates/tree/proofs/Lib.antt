@@ -3,3 +3,4 @@ pub mod Methods
 -- visits one after the other
 pub mod Visits
 pub mod Whole
+pub mod Loops

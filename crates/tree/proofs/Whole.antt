@@ -18,7 +18,7 @@ use Rattle.planning.specs.Place.{Label as PlanningLabel, Place, slot, inner, Pl
 use Rattle.planning.specs.Record.{records, recordsAt}
 use Rattle.planning.specs.Variable.{ownVars, partVars, slotVars, slotsVars, nodeVars, slots}
 use Rattle.tree.specs.Words.{treeWords}
-use Rattle.tree.specs.Visit.{membersIn, labelIn, someIn, Inside, Known, slotsOf, slotsOfEach, Small, Visited, VisitedTree, noCount, Counted}
+use Rattle.tree.specs.Visit.{membersIn, labelIn, someIn, Inside, Known, slotsOf, slotsOfEach, Small, Visited, VisitedPart, VisitedTree, noCount, Counted}
 use Rattle.tree.specs.declared.Label.{Label}
 use Rattle.tree.specs.declared.Count.{Count}
 use Rattle.tree.proofs.Methods.{one-word}
@@ -87,3 +87,17 @@ module _ (T : Table) {o o′ : List ℕ} {r : Count} (v : VisitedTree T o o′ r
       let z : _≡_ {A = ℕ} (5 * 0) 0 = omega arith in
       let n : r .nodes ≡ 0 + nodes (rootPlace T) = omega (arith, v .nodes) in
       rw n (rw (e, z) at (v .kept (omega arith) (omega arith)))
+
+-- a visit from the root on
+module _ (T : Table) (known : Known T) {w j : ℕ} (root : j ≡ T .root) (word : w ≡ getD (inserted (0 ∷ []) j) 0 0) where
+  jobs-word : w ≡ getD (inserted (0 ∷ []) (T .root)) 0 0
+  jobs-word = word ∙ ap (λ (k : ℕ). getD (inserted (0 ∷ []) k) 0 0) root
+
+  pub start-inside : Inside T (record { steps = 0; jobs = w })
+  start-inside = rw jobs-word (root-inside T known)
+
+  pub start-visited : {d : ℕ} {o o′ : List ℕ} {r : Count} → d ≡ T .depth → VisitedPart T d 0 (labelIn (record { steps = 0; jobs = w })) noCount o o′ r → VisitedTree T o o′ r
+  start-visited {d} {o} {o′} {r} e v = rw (e, jobs-word, root-label T known) at v
+
+pub no-count : Small noCount
+no-count = record { nodes = omega arith; variables = omega arith; slots = omega arith }

@@ -85,7 +85,7 @@ module _ (T : Table) where
     any-one [] = omega arith
     any-one (s ∷ ss) = omega arith
 
-    children-short : (L : Label) → childCount T L ≤ C
+    pub children-short : (L : Label) → childCount T L ≤ C
     unfolding childCount
     children-short L = omega (arith, any-one (L .steps), longest-short (methodsOf T (L .jobs)))
 

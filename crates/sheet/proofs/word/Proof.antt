@@ -1,0 +1,21 @@
+-- `sheet::word` meets its contract. Past the last word it is 0, as the list's default is.
+-- Assumes nothing.
+use Rattle.sheet.proofs.word.Tie as tie
+use borrow.Author.Needs.{needs}
+use Rattle.sheet.proofs.word.Statement.{statement}
+use Rattle.table.proofs.Access.{past-last}
+
+mul-result : tie.Need-mul-result
+mul-result c = search needs
+
+shared-slice-read-result : tie.Need-shared-slice-read-result
+shared-slice-read-result c = search needs
+
+returns : tie.Need-returns
+returns c = search needs
+
+returns-2 : tie.Need-returns-2
+returns-2 c = let a = c .before .args in past-last (a .ws .now) (a .i) (c .if1 .left)
+
+pub word-spec : {M : Type 1} → statement M
+word-spec = tie.close (tie.spec mul-result shared-slice-read-result returns returns-2)
