@@ -7,7 +7,7 @@ use lib.ListN.{length}
 use Rattle.planning.specs.Table.{Table}
 use Rattle.planning.specs.Accepted.{Accepted}
 use Rattle.places.specs.Flat.{Node}
-use Rattle.places.specs.ClausePlace.{nodeAt}
+use Rattle.places.specs.ClausePlace.{nodeAt, nodesIn, groupsIn}
 use Rattle.index.specs.Index.{source, indexOf}
 
 -- an accepted table, and its index
@@ -27,3 +27,10 @@ pub record InNode (T : Table) (ix : List ℕ) (n : ℕ) : Type 0 where
 pub record InSlot (T : Table) (ix : List ℕ) (n : ℕ) : Type 0 where
   pub indexed : Indexed T ix
   pub there : n < length ((source T) .slots)
+
+-- letter g of node or slot n of rule r
+pub record InGroup (T : Table) (ix : List ℕ) (r n g : ℕ) : Type 0 where
+  pub indexed : Indexed T ix
+  pub rule : r < 4
+  pub there : n < nodesIn (source T) r
+  pub group : g < groupsIn r

@@ -5,10 +5,11 @@ ghost use Prim.Native.Nat.{_+_, _≤_, _<_};
 ghost use lib.Dec.{eqb};
 ghost use lib.ListN.{length, getD};
 ghost use Rattle.bitset.specs.Set.{members};
+ghost use Rattle.planning.specs.Accepted.{Accepted};
 ghost use Rattle.sheet.specs.Sheet.{tableIn};
 ghost use Rattle.places.specs.ClausePlace.{childAt, width as childWidth, tasksN, methodAt, methodVar, namedAt, slotAt, noGroup, nodeGroups, slotGroups, effectFacts, groupAt, nodesIn, groupsIn, rowLen};
 ghost use Rattle.index.specs.Index.{source, SlotAt};
-ghost use Rattle.shape.specs.Shape.{node, Indexed, InNode, InSlot};
+ghost use Rattle.shape.specs.Shape.{node, Indexed, InNode, InSlot, InGroup};
 use table::FactSet;
 
 // Nodes ----------------------------------------------------------------------------------------------------------------------
@@ -158,4 +159,166 @@ pub fn slot_node(ws: &[u64], ix: &[u64], n: usize) -> usize
     ensures { λ r. ⌜ SlotAt (tableIn (now (ws .entry))) n r ⌝ }
 {
     index::slot_node(ix, n)
+}
+
+// How many step variables slot n has; variable x of them, and its step.
+pub fn slot_size(ws: &[u64], ix: &[u64], n: usize) -> usize
+    requires { ⌜ InSlot (tableIn (now ws)) (now ix) n ⌝ }
+    ensures { λ r. ⌜ (r ≡ length (slotAt (source (tableIn (now (ws .entry)))) n)) × (r ≤ 64) ⌝ }
+{
+    steps_of(ws, ix, slot_node(ws, ix, n))
+}
+
+pub fn slot_variable(ws: &[u64], ix: &[u64], n: usize, x: usize) -> usize
+    requires { ⌜ InSlot (tableIn (now ws)) (now ix) n × (x < length (slotAt (source (tableIn (now ws))) n)) ⌝ }
+    ensures { λ r. ⌜ (r ≡ (getD (slotAt (source (tableIn (now (ws .entry)))) n) x (0, 0)) .0) × (1 ≤ r) × (r ≤ 8256) ⌝ }
+{
+    first(ws, ix, slot_node(ws, ix, n)) + x
+}
+
+pub fn slot_step(ws: &[u64], ix: &[u64], n: usize, x: usize) -> usize
+    requires { ⌜ InSlot (tableIn (now ws)) (now ix) n × (x < length (slotAt (source (tableIn (now ws))) n)) ⌝ }
+    ensures { λ r. ⌜ (r ≡ (getD (slotAt (source (tableIn (now (ws .entry)))) n) x (0, 0)) .1) × (r < 64) ⌝ }
+{
+    index::meaning(ix, slot_variable(ws, ix, n, x))
+}
+
+// The facts that step s needs, sets, and clears and does not set: part y of rule 4.
+pub fn effects(ws: &[u64], s: usize, y: usize) -> FactSet
+    requires { ⌜ Accepted (tableIn (now ws)) × (s < 64) × (y < 3) ⌝ }
+    ensures { λ r. ⌜ members r ≡ effectFacts (tableIn (now (ws .entry))) s y ⌝ }
+{
+    if y == 0 {
+        return sheet::needs(ws, s);
+    }
+    if y == 1 {
+        return sheet::sets(ws, s);
+    }
+    let mut facts = sheet::clears(ws, s);
+    let sets = sheet::sets(ws, s);
+    bitset::subtract(&mut facts, &sets);
+    facts
+}
+
+fn effect_len(ws: &[u64], s: usize, y: usize) -> usize
+    requires { ⌜ Accepted (tableIn (now ws)) × (s < 64) × (y < 3) ⌝ }
+    ensures { λ r. ⌜ r ≡ length (effectFacts (tableIn (now (ws .entry))) s y) ⌝ }
+{
+    let facts = effects(ws, s, y);
+    bitset::size(&facts)
+}
+
+// Rule 4 at slot n: the effects, then two clauses a fact.
+fn slot_xs(ws: &[u64], ix: &[u64], n: usize, g: usize) -> usize
+    requires { ⌜ InSlot (tableIn (now ws)) (now ix) n × (g < 2) ⌝ }
+    ensures { λ r. ⌜ r ≡ (groupAt (source (tableIn (now (ws .entry)))) 3 n g) .xs ⌝ }
+{
+    if g == 0 {
+        return slot_size(ws, ix, n);
+    }
+    sheet::facts(ws)
+}
+
+fn slot_ys(ws: &[u64], n: usize, g: usize) -> usize
+    requires { ⌜ g < 2 ⌝ }
+    ensures { λ r. ⌜ r ≡ (groupAt (source (tableIn (now (ws .entry)))) 3 n g) .ys ⌝ }
+{
+    if g == 0 {
+        return 3;
+    }
+    1
+}
+
+fn slot_len(ws: &[u64], ix: &[u64], n: usize, g: usize, x: usize, y: usize) -> usize
+    requires { ⌜ InSlot (tableIn (now ws)) (now ix) n × (g < 2) × (x < (groupAt (source (tableIn (now ws))) 3 n g) .xs) × (y < (groupAt (source (tableIn (now ws))) 3 n g) .ys) ⌝ }
+    ensures { λ r. ⌜ r ≡ (groupAt (source (tableIn (now (ws .entry)))) 3 n g) .len x y ⌝ }
+{
+    if g == 0 {
+        return effect_len(ws, slot_step(ws, ix, n, x), y);
+    }
+    2
+}
+
+// All rules ------------------------------------------------------------------------------------------------------------------
+// How many nodes or slots rule r goes through; how many letters each has.
+pub fn nodes_in(ws: &[u64], ix: &[u64], r: usize) -> usize
+    requires { ⌜ Indexed (tableIn (now ws)) (now ix) × (r < 4) ⌝ }
+    ensures { λ k. ⌜ (k ≡ nodesIn (source (tableIn (now (ws .entry)))) r) × (k ≤ 1024) ⌝ }
+{
+    if r == 1 {
+        return index::nodes(ix);
+    }
+    if r == 3 {
+        return index::slots(ix);
+    }
+    1
+}
+
+pub fn groups_in(r: usize) -> usize
+    requires { ⌜ r < 4 ⌝ }
+    ensures { λ k. ⌜ (k ≡ groupsIn r) × (k ≤ 7) ⌝ }
+{
+    if r == 1 {
+        return 7;
+    }
+    if r == 3 {
+        return 2;
+    }
+    1
+}
+
+pub fn xs_in(ws: &[u64], ix: &[u64], r: usize, n: usize, g: usize) -> usize
+    requires { ⌜ InGroup (tableIn (now ws)) (now ix) r n g ⌝ }
+    ensures { λ k. ⌜ (k ≡ (groupAt (source (tableIn (now (ws .entry)))) r n g) .xs) × (k ≤ 128) ⌝ }
+{
+    if r == 1 {
+        return node_xs(ws, ix, n, g);
+    }
+    if r == 3 {
+        return slot_xs(ws, ix, n, g);
+    }
+    1
+}
+
+pub fn ys_in(ws: &[u64], ix: &[u64], r: usize, n: usize, g: usize) -> usize
+    requires { ⌜ InGroup (tableIn (now ws)) (now ix) r n g ⌝ }
+    ensures { λ k. ⌜ (k ≡ (groupAt (source (tableIn (now (ws .entry)))) r n g) .ys) × (k ≤ 8) ⌝ }
+{
+    if r == 1 {
+        return node_ys(ws, ix, n, g);
+    }
+    if r == 3 {
+        return slot_ys(ws, n, g);
+    }
+    1
+}
+
+fn len_in(ws: &[u64], ix: &[u64], r: usize, n: usize, g: usize, x: usize, y: usize) -> usize
+    requires { ⌜ InGroup (tableIn (now ws)) (now ix) r n g × (x < (groupAt (source (tableIn (now ws))) r n g) .xs) × (y < (groupAt (source (tableIn (now ws))) r n g) .ys) ⌝ }
+    ensures { λ k. ⌜ k ≡ (groupAt (source (tableIn (now (ws .entry)))) r n g) .len x y ⌝ }
+{
+    if r == 1 {
+        return node_len(ws, ix, n, g, x, y);
+    }
+    if r == 3 {
+        return slot_len(ws, ix, n, g, x, y);
+    }
+    if r == 2 {
+        return sheet::facts(ws);
+    }
+    1
+}
+
+// How many clauses row (x, y) has.
+pub fn row_len(ws: &[u64], ix: &[u64], r: usize, n: usize, g: usize, x: usize, y: usize) -> usize
+    requires { ⌜ InGroup (tableIn (now ws)) (now ix) r n g ⌝ }
+    ensures { λ k. ⌜ (k ≡ rowLen (source (tableIn (now (ws .entry)))) r n g x y) × (k ≤ 128) ⌝ }
+{
+    if x >= xs_in(ws, ix, r, n, g) {
+        return 0;
+    }
+    if y >= ys_in(ws, ix, r, n, g) {
+        return 0;
+    }
+    len_in(ws, ix, r, n, g, x, y)
 }

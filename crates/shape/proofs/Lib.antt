@@ -1,0 +1,4 @@
+-- Laws, by topic.
+pub mod Nodes
+pub mod Slots
+pub mod Groups
