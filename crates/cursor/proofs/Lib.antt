@@ -1,0 +1,3 @@
+-- Laws.
+pub mod Moves
+pub mod Counts

@@ -1,0 +1,231 @@
+-- The cursor's moves: one law for each way that the code goes on.
+-- By the laws of what is left from a place on.
+use mathlib.Core.Path.{_≡_, refl, sym, ap, _∙_, subst}
+use mathlib.Core.List.{List, [], _∷_, _++_}
+use mathlib.Core.Logic.{_⊎_, inl, inr}
+use Prim.Native.Nat.{ℕ, zero, suc, _+_, _-_, _*_, _≤_, _<_}
+use native.Mathlib.Omega.{arith}
+use lib.ListN.{length}
+use Rattle.lists.proofs.Order.{ne-lt}
+use Rattle.planning.specs.Table.{Table}
+use Rattle.planning.specs.Place.{rootPlace}
+use Rattle.places.specs.Nest.{Pos, at, left, positions}
+use Rattle.places.specs.ClausePlace.{Source, shape, groupAt, groupsIn, nodesIn, rowLen}
+use Rattle.places.proofs.Formula.{good}
+use Rattle.places.proofs.Walk.{left-clause, left-row, left-column, left-group, left-node}
+use Rattle.places.proofs.Total.{skip-rule, skip-last}
+use Rattle.index.specs.Index.{source}
+use Rattle.index.proofs.Known.{nodes-count}
+use Rattle.shape.specs.Shape.{Indexed, InGroup}
+use Rattle.shape.proofs.Nodes.{few-nodes, few-slots}
+use Rattle.tree.proofs.Visits.{nodes-some}
+use Rattle.cursor.specs.Cursor.{posOf, ofPos, leftIn, answerOf, nextOf, Stands, atEnd, In, Holds, Handed, rankOf, rowEnd, Moved, NodePassed}
+use Rattle.cursor.specs.declared.Cursor.{Cursor}
+use Rattle.cursor.specs.declared.Next.{Next}
+use Rattle.cursor.specs.declared.Next.the-variants.{Clause, End}
+
+pub letter-of : {T : Table} {ix : List ℕ} {c : Cursor} → Indexed T ix → Stands T c → InGroup T ix (c .rule) (c .node) (c .group)
+letter-of i s = record { indexed = i; rule = s .rule; there = s .node; group = s .group }
+
+-- every rule has a letter
+some-letter : (r : ℕ) → 0 < groupsIn r
+some-letter zero = omega arith
+some-letter (suc zero) = omega arith
+some-letter (suc (suc zero)) = omega arith
+some-letter (suc (suc (suc zero))) = omega arith
+some-letter (suc (suc (suc (suc r)))) = omega arith
+
+few-letters : (r : ℕ) → groupsIn r ≤ 7
+few-letters zero = omega arith
+few-letters (suc zero) = omega arith
+few-letters (suc (suc zero)) = omega arith
+few-letters (suc (suc (suc zero))) = omega arith
+few-letters (suc (suc (suc (suc r)))) = omega arith
+
+nodes-most : {T : Table} {ix : List ℕ} → Indexed T ix → (r : ℕ) → nodesIn (source T) r ≤ 1024
+nodes-most i zero = omega arith
+nodes-most {T} i (suc zero) = few-nodes T (i .accepted)
+nodes-most i (suc (suc zero)) = omega arith
+nodes-most {T} i (suc (suc (suc zero))) = few-slots T (i .accepted)
+nodes-most i (suc (suc (suc (suc r)))) = omega arith
+
+-- What falls -----------------------------------------------------------------------------------------------------------------
+fall-y : (h y : ℕ) → y < 8 → h + (8 - (y + 1)) < h + (8 - y)
+fall-y h y l = omega arith
+
+fall-x : (x z : ℕ) → x < 128 → (128 - (x + 1)) * 100 + 8 < (128 - x) * 100 + z
+fall-x x z l = omega arith
+
+fall-g : (g z : ℕ) → g < 8 → (8 - (g + 1)) * 100000 + 12808 < (8 - g) * 100000 + z
+fall-g g z l = omega arith
+
+fall-n : (n z : ℕ) → n < 1024 → (1024 - (n + 1)) * 10000000 + 812808 < (1024 - n) * 10000000 + z
+fall-n n z l = omega arith
+
+fall-r : (r z : ℕ) → r < 4 → (4 - (r + 1)) * 100000000000 + 10240812808 < (4 - r) * 100000000000 + z
+fall-r r z l = omega arith
+
+under : (h : ℕ) {a b : ℕ} → a < b → h + a < h + b
+under h l = omega arith
+
+-- The end --------------------------------------------------------------------------------------------------------------------
+pub left-at-end : (T : Table) → leftIn T atEnd ≡ []
+unfolding left shape
+left-at-end T = refl
+
+-- A node passed ----------------------------------------------------------------------------------------------------------------
+pub start-stands : (T : Table) (r n : ℕ) → r < 4 → n < nodesIn (source T) r → Stands T (ofPos (at r n 0 0 0 0))
+start-stands T r n h l = record { rule = h; node = l; group = some-letter r; x = omega arith; y = omega arith }
+
+module _ {T : Table} {ix : List ℕ} {c : Cursor} (i : Indexed T ix) (s : Stands T c) where
+  few : c .node < 1024
+  few = omega (arith, s .node, nodes-most i (c .rule))
+
+  low : (1024 - c .node) * 10000000 + ((8 - c .group) * 100000 + ((128 - c .x) * 100 + (8 - c .y))) < 10240812809
+  low = omega arith
+
+  pub node-next : {k : ℕ} → k ≡ nodesIn (source T) (c .rule) → c .node + 1 < k → NodePassed T c (ofPos (at (c .rule) (c .node + 1) 0 0 0 0))
+  node-next {k} e h = record {
+    same = refl;
+    less = under ((4 - c .rule) * 100000000000) (fall-n (c .node) ((8 - c .group) * 100000 + ((128 - c .x) * 100 + (8 - c .y))) few);
+    inside = inl (start-stands T (c .rule) (c .node + 1) (s .rule) (omega arith));
+    start = (refl, refl, refl, refl);
+  }
+
+  module _ {k : ℕ} (e : k ≡ nodesIn (source T) (c .rule)) (last : k ≤ c .node + 1) where
+    pub rule-last : c .rule + 1 ≡ 4 → NodePassed T c atEnd
+    rule-last q =
+        let z : c .rule ≡ 3 = omega arith in
+        let l : nodesIn (source T) (c .rule) ≤ c .node + 1 = omega (arith, e) in
+        record {
+          same = rw z (skip-last (source T) (c .node + 1) (rw z at l)) ∙ sym (left-at-end T);
+          less = omega (arith, s .rule);
+          inside = inr refl;
+          start = (refl, refl, refl, refl);
+        }
+
+    passed : c .rule < 3 → left (shape (source T)) (at (c .rule) (c .node + 1) 0 0 0 0) ≡ left (shape (source T)) (at (c .rule + 1) 0 0 0 0 0)
+    passed l = skip-rule (source T) (c .rule) (c .node + 1) (omega (arith, e)) l
+
+    pub rule-next : (c .rule + 1 ≡ 4 → ⊥) → {m : ℕ} → m ≡ nodesIn (source T) (c .rule + 1) → (m ≡ 0 → ⊥) → NodePassed T c (ofPos (at (c .rule + 1) 0 0 0 0 0))
+    rule-next u {m} f v =
+        let some : 0 < m = ne-lt (omega arith) (λ w. v (sym w)) in
+        let l : c .rule < 3 = omega (arith, ne-lt (omega (arith, s .rule)) u) in
+        record {
+          same = passed l;
+          less = fall-r (c .rule) ((1024 - c .node) * 10000000 + ((8 - c .group) * 100000 + ((128 - c .x) * 100 + (8 - c .y)))) (s .rule);
+          inside = inl (start-stands T (c .rule + 1) 0 (omega arith) (omega (arith, f, some)));
+          start = (refl, refl, refl, refl);
+        }
+
+    pub rule-empty : (c .rule + 1 ≡ 4 → ⊥) → {m : ℕ} → m ≡ nodesIn (source T) (c .rule + 1) → m ≡ 0 → NodePassed T c atEnd
+    rule-empty u {m} f v =
+        let l : c .rule < 3 = omega (arith, ne-lt (omega (arith, s .rule)) u) in
+        record {
+          same = passed l ∙ nothing (c .rule) l (omega (arith, f));
+          less = omega (arith, s .rule);
+          inside = inr refl;
+          start = (refl, refl, refl, refl);
+        }
+      where
+        nothing : (r : ℕ) → r < 3 → nodesIn (source T) (r + 1) ≡ 0 → left (shape (source T)) (at (r + 1) 0 0 0 0 0) ≡ leftIn T atEnd
+        nothing zero l q = absurd (omega (arith, q, nodes-count T, nodes-some (rootPlace T)))
+        nothing (suc zero) l q = absurd (omega (arith, q))
+        nothing (suc (suc zero)) l q = skip-last (source T) 0 (omega (arith, q)) ∙ sym (left-at-end T)
+        nothing (suc (suc (suc r))) l q = absurd (omega arith)
+
+-- A row passed -----------------------------------------------------------------------------------------------------------------
+module _ {T : Table} {ix : List ℕ} {c : Cursor} (i : Indexed T ix) (s : Stands T c) where
+  abbrev S : Source
+  S = source T
+
+  abbrev len : ℕ
+  len = rowLen S (c .rule) (c .node) (c .group) (c .x) (c .y)
+
+  pub row-next : {ky : ℕ} → ky ≡ (groupAt S (c .rule) (c .node) (c .group)) .ys → ky ≤ 8 → c .y + 1 < ky
+      → Moved T c (record { rule = c .rule; node = c .node; group = c .group; x = c .x; y = c .y + 1; i = 0 })
+  unfolding shape
+  row-next {ky} ys most h = record {
+    same = left-row (shape S) (good S) (c .rule) (c .node) (c .group) (c .x) (c .y) len (omega arith);
+    less = under ((4 - c .rule) * 100000000000) (under ((1024 - c .node) * 10000000) (under ((8 - c .group) * 100000) (fall-y ((128 - c .x) * 100) (c .y) (omega arith))));
+    inside = inl (record { rule = s .rule; node = s .node; group = s .group; x = s .x; y = omega arith });
+    first = refl;
+  }
+
+  module _ {ky : ℕ} (ys : ky ≡ (groupAt S (c .rule) (c .node) (c .group)) .ys) (lastY : ky ≤ c .y + 1) where
+    pub column-next : {kx : ℕ} → kx ≡ (groupAt S (c .rule) (c .node) (c .group)) .xs → kx ≤ 128 → c .x + 1 < kx
+        → Moved T c (record { rule = c .rule; node = c .node; group = c .group; x = c .x + 1; y = 0; i = 0 })
+    unfolding shape
+    column-next {kx} xs most h = record {
+      same = left-column (shape S) (good S) (c .rule) (c .node) (c .group) (c .x) (c .y) len (omega arith) (omega (arith, ys));
+      less = under ((4 - c .rule) * 100000000000) (under ((1024 - c .node) * 10000000) (under ((8 - c .group) * 100000) (fall-x (c .x) (8 - c .y) (omega arith))));
+      inside = inl (record { rule = s .rule; node = s .node; group = s .group; x = omega arith; y = omega arith });
+      first = refl;
+    }
+
+    module _ {kx : ℕ} (xs : kx ≡ (groupAt S (c .rule) (c .node) (c .group)) .xs) (lastX : kx ≤ c .x + 1) {kg : ℕ} (gs : kg ≡ groupsIn (c .rule)) where
+      pub letter-next : c .group + 1 < kg → Moved T c (record { rule = c .rule; node = c .node; group = c .group + 1; x = 0; y = 0; i = 0 })
+      unfolding shape
+      letter-next h = record {
+        same = left-group (shape S) (good S) (c .rule) (c .node) (c .group) (c .x) (c .y) len (omega arith) (omega (arith, ys)) (omega (arith, xs)) (omega (arith, gs));
+        less = under ((4 - c .rule) * 100000000000) (under ((1024 - c .node) * 10000000) (fall-g (c .group) ((128 - c .x) * 100 + (8 - c .y)) (omega (arith, s .group, few-letters (c .rule)))));
+        inside = inl (record { rule = s .rule; node = s .node; group = omega (arith, gs); x = omega arith; y = omega arith });
+        first = refl;
+      }
+
+      pub node-passed : kg ≤ c .group + 1 → {d : Cursor} → NodePassed T c d → Moved T c d
+      unfolding shape
+      node-passed h {d} p = record {
+        same = left-node (shape S) (good S) (c .rule) (c .node) (c .group) (c .x) (c .y) len (omega arith) (omega (arith, ys)) (omega (arith, xs)) (omega (arith, gs)) ∙ p .same;
+        less = p .less;
+        inside = p .inside;
+        first = p .start .3;
+      }
+
+-- The method -------------------------------------------------------------------------------------------------------------------
+pub stands-of : {T : Table} {c : Cursor} → In T c → c .rule < 4 → Stands T c
+stands-of (inl s) h = s
+stands-of {T} {c} (inr e) h = let q : c .rule ≡ 4 = ap (λ (d : Cursor). d .rule) e in absurd (omega arith)
+
+-- on the way from c₀ the cursor is at c
+pub record Upto (T : Table) (c₀ c : Cursor) : Type 0 where
+  pub same : leftIn T c₀ ≡ leftIn T c
+  pub inside : In T c
+
+pub upto-move : {T : Table} {c₀ c d : Cursor} {k : ℕ} → Upto T c₀ c → k ≡ rowLen (source T) (c .rule) (c .node) (c .group) (c .x) (c .y) → k ≤ c .i → Moved T c d → Upto T c₀ d
+unfolding shape
+upto-move {T} {c₀} {c} {d} {k} u e h m = record { same = u .same ∙ past ∙ m .same; inside = m .inside }
+  where
+    past : leftIn T c ≡ left (shape (source T)) (rowEnd T c)
+    past =
+        left-row (shape (source T)) (good (source T)) (c .rule) (c .node) (c .group) (c .x) (c .y) (c .i) (omega (arith, e))
+        ∙ sym (left-row (shape (source T)) (good (source T)) (c .rule) (c .node) (c .group) (c .x) (c .y) (rowLen (source T) (c .rule) (c .node) (c .group) (c .x) (c .y)) (omega arith))
+
+module _ {T : Table} {c₀ c : Cursor} (u : Upto T c₀ c) where
+  pub hands-out : {k : ℕ} → c .rule < 4 → k ≡ rowLen (source T) (c .rule) (c .node) (c .group) (c .x) (c .y) → c .i < k
+      → (Clause c (record { rule = c .rule; node = c .node; group = c .group; x = c .x; y = c .y; i = c .i + 1 }) ≡ nextOf T c₀)
+      × Handed T (Clause c (record { rule = c .rule; node = c .node; group = c .group; x = c .x; y = c .y; i = c .i + 1 }))
+  unfolding shape
+  hands-out {k} r e h =
+      let l : c .i < rowLen (source T) (c .rule) (c .node) (c .group) (c .x) (c .y) = omega (arith, e) in
+      let s = stands-of (u .inside) r in (
+        sym (ap answerOf (u .same ∙ left-clause (shape (source T)) (c .rule) (c .node) (c .group) (c .x) (c .y) (c .i) l)),
+        (record { stands = s; clause = l }, inl (record { rule = s .rule; node = s .node; group = s .group; x = s .x; y = s .y })),
+      )
+
+  pub ends : 4 ≤ c .rule → (End ≡ nextOf T c₀) × Handed T End
+  ends h = (sym (ap answerOf (u .same ∙ go (u .inside))), tt)
+    where
+      go : In T c → leftIn T c ≡ []
+      go (inl s) = absurd (omega (arith, s .rule))
+      go (inr e) = ap (leftIn T) e ∙ left-at-end T
+
+-- Sums that fit ------------------------------------------------------------------------------------------------------------------
+pub few-after : {T : Table} {ix : List ℕ} {c : Cursor} → Indexed T ix → Stands T c → c .node + 1 < 18446744073709551616
+few-after {T} {ix} {c} i s = omega (arith, s .node, nodes-most i (c .rule))
+
+pub letters-after : {T : Table} {c : Cursor} → Stands T c → c .group + 1 ≤ 7
+letters-after {T} {c} s = omega (arith, s .group, few-letters (c .rule))
+
+pub next-rule : {T : Table} {c : Cursor} → Stands T c → (c .rule + 1 ≡ 4 → ⊥) → c .rule + 1 < 4
+next-rule s u = ne-lt (omega (arith, s .rule)) u

@@ -1,0 +1,95 @@
+-- The clause cursor: what its method hands back, outright. The places it goes through are those of crate `places`, whose clauses in this
+-- order are planning's formula. Assumes nothing.
+use mathlib.Core.Path.{_≡_}
+use mathlib.Core.List.{List, [], _∷_}
+use mathlib.Core.Logic.{_⊎_}
+use Prim.Native.Nat.{ℕ, suc, _+_, _-_, _*_, _≤_, _<_}
+use lib.ListN.{length, drop}
+use Rattle.planning.specs.Table.{Table}
+use Rattle.places.specs.Nest.{Pos, at, left, positions}
+use Rattle.places.specs.ClausePlace.{Source, shape, groupAt, groupsIn, nodesIn, rowLen}
+use Rattle.places.specs.Cursor.{after, Seeking}
+use Rattle.places.specs.Total.{sumTo}
+use Rattle.index.specs.Index.{source}
+use Rattle.cursor.specs.declared.Cursor.{Cursor}
+use Rattle.cursor.specs.declared.Next.{Next}
+use Rattle.cursor.specs.declared.Next.the-variants.{Clause, End}
+
+-- a cursor is a place: rule, node, letter, row (x, y) and clause i of the row
+abbrev pub posOf : Cursor → Pos
+posOf c = at (c .rule) (c .node) (c .group) (c .x) (c .y) (c .i)
+
+abbrev pub ofPos : Pos → Cursor
+ofPos p = record { rule = p .rule; node = p .node; group = p .group; x = p .x; y = p .y; i = p .i }
+
+-- the places that are left
+abbrev pub leftIn : Table → Cursor → List Pos
+leftIn T c = left (shape (source T)) (posOf c)
+
+-- what the method hands back: the next clause's place and the cursor behind it, or the end
+abbrev pub answerOf : List Pos → Next
+answerOf [] = End
+answerOf (p ∷ ps) = Clause (ofPos p) (ofPos (after p))
+
+abbrev pub nextOf : Table → Cursor → Next
+nextOf T c = answerOf (leftIn T c)
+
+-- a cursor stands at a letter of a node, or at the end, which is rule 4
+pub record Stands (T : Table) (c : Cursor) : Type 0 where
+  pub rule : c .rule < 4
+  pub node : c .node < nodesIn (source T) (c .rule)
+  pub group : c .group < groupsIn (c .rule)
+  pub x : c .x ≤ 128
+  pub y : c .y ≤ 8
+
+abbrev pub atEnd : Cursor
+atEnd = record { rule = 4; node = 0; group = 0; x = 0; y = 0; i = 0 }
+
+abbrev pub In : Table → Cursor → Type 0
+In T c = Stands T c ⊎ (c ≡ atEnd)
+
+-- a clause stands at a cursor
+pub record Holds (T : Table) (c : Cursor) : Type 0 where
+  pub stands : Stands T c
+  pub clause : c .i < rowLen (source T) (c .rule) (c .node) (c .group) (c .x) (c .y)
+
+-- what is known of what is handed back
+abbrev pub Handed : Table → Next → Type 0
+Handed T End = Unit {0}
+Handed T (Clause p d) = Holds T p × In T d
+
+-- falls at every move
+abbrev pub rankOf : Cursor → ℕ
+rankOf c = (4 - c .rule) * 100000000000 + ((1024 - c .node) * 10000000 + ((8 - c .group) * 100000 + ((128 - c .x) * 100 + (8 - c .y))))
+
+-- the row of c is passed over
+abbrev pub rowEnd : Table → Cursor → Pos
+rowEnd T c = at (c .rule) (c .node) (c .group) (c .x) (c .y) (rowLen (source T) (c .rule) (c .node) (c .group) (c .x) (c .y))
+
+pub record Moved (T : Table) (c d : Cursor) : Type 0 where
+  pub same : left (shape (source T)) (rowEnd T c) ≡ leftIn T d
+  pub less : rankOf d < rankOf c
+  pub inside : In T d
+  pub first : d .i ≡ 0
+
+-- the node of c is passed over
+pub record NodePassed (T : Table) (c d : Cursor) : Type 0 where
+  pub same : left (shape (source T)) (at (c .rule) (c .node + 1) 0 0 0 0) ≡ leftIn T d
+  pub less : rankOf d < rankOf c
+  pub inside : In T d
+  pub start : (d .group ≡ 0) × (d .x ≡ 0) × (d .y ≡ 0) × (d .i ≡ 0)
+
+-- the clauses of a letter, row by row
+abbrev pub columnsCount : Source → (r n g : ℕ) → ℕ
+columnsCount S r n g = sumTo (λ x. sumTo (λ y. rowLen S r n g x y) ((groupAt S r n g) .ys)) ((groupAt S r n g) .xs)
+
+-- a row's first place, from which k clauses are to be passed over to stand before clause j
+pub record SoughtRow (T : Table) (j k : ℕ) (c : Cursor) : Type 0 where
+  pub seeking : Seeking (source T) j k (posOf c)
+  pub inside : In T c
+  pub first : c .i ≡ 0
+
+-- the cursor before clause j
+pub record Found (T : Table) (j : ℕ) (c : Cursor) : Type 0 where
+  pub same : leftIn T c ≡ drop j (positions (shape (source T)))
+  pub inside : In T c

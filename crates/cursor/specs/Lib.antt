@@ -1,0 +1,2 @@
+-- The clause cursor.
+pub mod Cursor

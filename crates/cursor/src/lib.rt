@@ -1,0 +1,257 @@
+// The clause cursor: six numbers by value. Its method hands back the next clause's place and itself advanced. `ws` is the table's sheet
+// and `ix` its index.
+ghost use mathlib.Core.Path.{_≡_};
+ghost use Prim.Native.Nat.{_+_, _≤_, _<_};
+ghost use lib.ListN.{length, drop};
+ghost use Rattle.places.specs.Nest.{at};
+ghost use Rattle.places.specs.ClausePlace.{nodesIn, groupAt, rowLen};
+ghost use Rattle.places.specs.Total.{sumTo, countAt, clauseCount};
+ghost use Rattle.sheet.specs.Sheet.{tableIn};
+ghost use Rattle.index.specs.Index.{source};
+ghost use Rattle.shape.specs.Shape.{Indexed, InGroup};
+ghost use Rattle.cursor.specs.Cursor.{ofPos, nextOf, Stands, In, Handed, Moved, NodePassed, columnsCount, SoughtRow, Found};
+
+// A place among the clauses. As a cursor it stands just behind the last clause handed out.
+pub struct Cursor {
+    pub rule: usize,
+    pub node: usize,
+    pub group: usize,
+    pub x: usize,
+    pub y: usize,
+    pub i: usize,
+}
+
+pub enum Next {
+    Clause(Cursor, Cursor),
+    End,
+}
+
+// Where rule r begins at node n.
+fn node_start(r: usize, n: usize) -> Cursor
+    ensures { λ d. ⌜ d ≡ ofPos (at r n 0 0 0 0) ⌝ }
+{
+    Cursor {
+        rule: r,
+        node: n,
+        group: 0,
+        x: 0,
+        y: 0,
+        i: 0,
+    }
+}
+
+impl Cursor {
+    // How many clauses its row has.
+    fn row(self, ws: &[u64], ix: &[u64]) -> usize
+        requires { ⌜ Indexed (tableIn (now ws)) (now ix) × Stands (tableIn (now ws)) self ⌝ }
+        ensures { λ k. ⌜ (k ≡ rowLen (source (tableIn (now (ws .entry)))) (self .rule) (self .node) (self .group) (self .x) (self .y)) × (k ≤ 128) ⌝ }
+    {
+        shape::row_len(ws, ix, self.rule, self.node, self.group, self.x, self.y)
+    }
+
+    // The next node's first place.
+    fn past_node(self, ws: &[u64], ix: &[u64]) -> Cursor
+        requires { ⌜ Indexed (tableIn (now ws)) (now ix) × Stands (tableIn (now ws)) self ⌝ }
+        ensures { λ d. ⌜ NodePassed (tableIn (now (ws .entry))) self d ⌝ }
+    {
+        let n = self.node + 1;
+        if n < shape::nodes_in(ws, ix, self.rule) {
+            return node_start(self.rule, n);
+        }
+        let r = self.rule + 1;
+        if r == 4 {
+            return node_start(4, 0);
+        }
+        if shape::nodes_in(ws, ix, r) == 0 {
+            return node_start(4, 0);
+        }
+        node_start(r, 0)
+    }
+
+    // The next row's first place.
+    fn past_row(self, ws: &[u64], ix: &[u64]) -> Cursor
+        requires { ⌜ Indexed (tableIn (now ws)) (now ix) × Stands (tableIn (now ws)) self ⌝ }
+        ensures { λ d. ⌜ Moved (tableIn (now (ws .entry))) self d ⌝ }
+    {
+        if self.y + 1 < shape::ys_in(ws, ix, self.rule, self.node, self.group) {
+            return Cursor {
+                rule: self.rule,
+                node: self.node,
+                group: self.group,
+                x: self.x,
+                y: self.y + 1,
+                i: 0,
+            };
+        }
+        if self.x + 1 < shape::xs_in(ws, ix, self.rule, self.node, self.group) {
+            return Cursor {
+                rule: self.rule,
+                node: self.node,
+                group: self.group,
+                x: self.x + 1,
+                y: 0,
+                i: 0,
+            };
+        }
+        if self.group + 1 < shape::groups_in(self.rule) {
+            return Cursor {
+                rule: self.rule,
+                node: self.node,
+                group: self.group + 1,
+                x: 0,
+                y: 0,
+                i: 0,
+            };
+        }
+        self.past_node(ws, ix)
+    }
+
+    // The next clause's place, and the cursor behind it.
+    pub fn next(self, ws: &[u64], ix: &[u64]) -> Next
+        requires { ⌜ Indexed (tableIn (now ws)) (now ix) × In (tableIn (now ws)) self ⌝ }
+        ensures { λ r. ⌜ (r ≡ nextOf (tableIn (now (ws .entry))) self) × Handed (tableIn (now (ws .entry))) r ⌝ }
+    {
+        let mut c = self;
+        while c.rule < 4 {
+            if c.i < c.row(ws, ix) {
+                return Next::Clause(
+                    c,
+                    Cursor {
+                        rule: c.rule,
+                        node: c.node,
+                        group: c.group,
+                        x: c.x,
+                        y: c.y,
+                        i: c.i + 1,
+                    },
+                );
+            }
+            c = c.past_row(ws, ix);
+        }
+        Next::End
+    }
+}
+
+// Counts ---------------------------------------------------------------------------------------------------------------------
+// The clauses of column x of letter g, of the letter, of node n, of rule r.
+fn count_rows(ws: &[u64], ix: &[u64], r: usize, n: usize, g: usize, x: usize) -> usize
+    requires { ⌜ InGroup (tableIn (now ws)) (now ix) r n g ⌝ }
+    ensures { λ k. ⌜ (k ≡ sumTo (λ y. rowLen (source (tableIn (now (ws .entry)))) r n g x y) ((groupAt (source (tableIn (now (ws .entry)))) r n g) .ys)) × (k ≤ 1024) ⌝ }
+{
+    let e = shape::ys_in(ws, ix, r, n, g);
+    let mut k: usize = 0;
+    let mut y: usize = 0;
+    while y < e {
+        k += shape::row_len(ws, ix, r, n, g, x, y);
+        y += 1;
+    }
+    k
+}
+
+fn count_columns(ws: &[u64], ix: &[u64], r: usize, n: usize, g: usize) -> usize
+    requires { ⌜ InGroup (tableIn (now ws)) (now ix) r n g ⌝ }
+    ensures { λ k. ⌜ (k ≡ columnsCount (source (tableIn (now (ws .entry)))) r n g) × (k ≤ 131072) ⌝ }
+{
+    let e = shape::xs_in(ws, ix, r, n, g);
+    let mut k: usize = 0;
+    let mut x: usize = 0;
+    while x < e {
+        k += count_rows(ws, ix, r, n, g, x);
+        x += 1;
+    }
+    k
+}
+
+pub fn count_node(ws: &[u64], ix: &[u64], r: usize, n: usize) -> usize
+    requires { ⌜ Indexed (tableIn (now ws)) (now ix) × (r < 4) × (n < nodesIn (source (tableIn (now ws))) r) ⌝ }
+    ensures { λ k. ⌜ (k ≡ countAt (source (tableIn (now (ws .entry)))) r n) × (k ≤ 917504) ⌝ }
+{
+    let e = shape::groups_in(r);
+    let mut k: usize = 0;
+    let mut g: usize = 0;
+    while g < e {
+        k += count_columns(ws, ix, r, n, g);
+        g += 1;
+    }
+    k
+}
+
+fn count_rule(ws: &[u64], ix: &[u64], r: usize) -> usize
+    requires { ⌜ Indexed (tableIn (now ws)) (now ix) × (r < 4) ⌝ }
+    ensures { λ k. ⌜ (k ≡ sumTo (countAt (source (tableIn (now (ws .entry)))) r) (nodesIn (source (tableIn (now (ws .entry)))) r)) × (k ≤ 939524096) ⌝ }
+{
+    let e = shape::nodes_in(ws, ix, r);
+    let mut k: usize = 0;
+    let mut n: usize = 0;
+    while n < e {
+        k += count_node(ws, ix, r, n);
+        n += 1;
+    }
+    k
+}
+
+// All clauses.
+pub fn count_all(ws: &[u64], ix: &[u64]) -> usize
+    requires { ⌜ Indexed (tableIn (now ws)) (now ix) ⌝ }
+    ensures { λ k. ⌜ (k ≡ clauseCount (source (tableIn (now (ws .entry))))) × (k ≤ 3758096384) ⌝ }
+{
+    count_rule(ws, ix, 0) + count_rule(ws, ix, 1) + count_rule(ws, ix, 2) + count_rule(ws, ix, 3)
+}
+
+// Seeking --------------------------------------------------------------------------------------------------------------------
+// A cursor, and how many clauses from it on are still to be passed over.
+pub struct Sought {
+    pub cursor: Cursor,
+    pub left: usize,
+}
+
+// The node of clause j, counted from 0: whole nodes are passed over by their counts.
+fn seek_node(ws: &[u64], ix: &[u64], j: usize) -> Sought
+    requires { ⌜ Indexed (tableIn (now ws)) (now ix) ⌝ }
+    ensures { λ r. ⌜ SoughtRow (tableIn (now (ws .entry))) j (r .left) (r .cursor) ⌝ }
+{
+    let mut c = node_start(0, 0);
+    let mut k = j;
+    while c.rule < 4 {
+        let m = count_node(ws, ix, c.rule, c.node);
+        if k < m {
+            return Sought { cursor: c, left: k };
+        }
+        k -= m;
+        c = c.past_node(ws, ix);
+    }
+    Sought { cursor: c, left: k }
+}
+
+// Within it whole rows are.
+fn seek_row(ws: &[u64], ix: &[u64], s: Sought, j: usize) -> Cursor
+    requires { ⌜ Indexed (tableIn (now ws)) (now ix) × SoughtRow (tableIn (now ws)) j (s .left) (s .cursor) ⌝ }
+    ensures { λ r. ⌜ Found (tableIn (now (ws .entry))) j r ⌝ }
+{
+    let mut c = s.cursor;
+    let mut k = s.left;
+    while c.rule < 4 {
+        let m = c.row(ws, ix);
+        if k < m {
+            return Cursor {
+                rule: c.rule,
+                node: c.node,
+                group: c.group,
+                x: c.x,
+                y: c.y,
+                i: k,
+            };
+        }
+        k -= m;
+        c = c.past_row(ws, ix);
+    }
+    c
+}
+
+// The cursor before clause j, counted from 0; at the end, where there is no such clause.
+pub fn seek(ws: &[u64], ix: &[u64], j: usize) -> Cursor
+    requires { ⌜ Indexed (tableIn (now ws)) (now ix) ⌝ }
+    ensures { λ r. ⌜ Found (tableIn (now (ws .entry))) j r ⌝ }
+{
+    seek_row(ws, ix, seek_node(ws, ix, j), j)
+}
