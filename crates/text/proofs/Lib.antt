@@ -1,0 +1,3 @@
+-- Laws.
+pub mod Writing
+pub mod Whole

@@ -1,0 +1,2 @@
+-- Inside the encoding: the lines of a formula, written from a line on.
+pub mod Lines
