@@ -35,7 +35,7 @@ one-word [] h = absurd (omega arith)
 one-word (w ∷ []) h = refl
 one-word (w ∷ v ∷ l) h = absurd (omega arith)
 
-set-length : (xs : List ℕ) → length (setOf 1 xs) ≡ 1
+pub set-length : (xs : List ℕ) → length (setOf 1 xs) ≡ 1
 set-length [] = refl
 set-length (x ∷ xs) = promises .insert-length (setOf 1 xs) x ∙ set-length xs
 

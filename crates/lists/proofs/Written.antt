@@ -6,7 +6,7 @@ use Prim.Native.Nat.{ℕ, zero, suc, _+_, _≤_, _<_}
 use native.Mathlib.Numerals.{add-one}
 use native.Mathlib.Nat.{add-zero}
 use native.Mathlib.Omega.{arith}
-use lib.ListN.{length, take, drop, set, length-append, length-drop, take-append-drop}
+use lib.ListN.{length, take, drop, set, length-append, length-take, length-drop, take-append-drop}
 use lib.Seq.{set-split, append-snoc, take-at, drop-at, drop-drop, length-take-le}
 use Rattle.lists.specs.Written.{Wrote}
 
@@ -56,3 +56,10 @@ wrote-front {o} {xs} {o′} {r} w = front w (omega arith)
 
 pub wrote-whole : {o xs o′ : List ℕ} {r : ℕ} → Wrote o 0 xs o′ r → o′ ≡ xs ++ drop (length xs) o
 wrote-whole {o} {xs} {o′} {r} w = let z : 0 + length xs ≡ length xs = omega arith in w .text ∙ ap (λ (n : ℕ). xs ++ drop n o) z
+
+-- so many it has
+pub wrote-count : {o xs o′ : List ℕ} {r : ℕ} → Wrote o 0 xs o′ r → r ≡ length (take r o′)
+wrote-count {o} {xs} {o′} {r} w = omega (arith, w .end, ap length (wrote-front w))
+
+pub wrote-room : {o xs o′ : List ℕ} {r : ℕ} → Wrote o 0 xs o′ r → r ≤ length o′
+wrote-room {o} {xs} {o′} {r} w = omega (arith, wrote-count w, length-take r o′)

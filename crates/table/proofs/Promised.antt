@@ -234,5 +234,6 @@ promises = record {
       let r = verdict-refused (firstUnmet (questions2to7 s)) n (readTable p) (namePartsOf p) e in
       among-seven s n (r .0) (r .1);
   read = λ s r u z. taken s (tableFrom (r .table)) (namePartsFrom (r .table)) (sym (u .read) ∙ passed-by (r .question) (tableFrom (r .table)) (namePartsFrom (r .table)) z);
+  read-as = λ s r u z. sym (u .read) ∙ passed-by (r .question) (tableFrom (r .table)) (namePartsFrom (r .table)) z;
   turned-down = λ s r u n. sym (u .read) ∙ refused-by (r .question) (tableFrom (r .table)) (namePartsFrom (r .table)) n;
 }

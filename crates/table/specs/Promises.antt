@@ -37,4 +37,5 @@ pub record Promises : Type 0 where
   pub unmet : (s : List ℕ) (n : ℕ) → reading s ≡ refused n → (2 ≤ n) × (n ≤ 7)
   -- so what the call hands back is promised too, and its number is the first unmet question's
   pub read : (s : List ℕ) (r : Outcome) → Reads s r → r .question ≡ 0 → Promised s (tableFrom (r .table)) (namePartsFrom (r .table))
+  pub read-as : (s : List ℕ) (r : Outcome) → Reads s r → r .question ≡ 0 → reading s ≡ passed (tableFrom (r .table)) (namePartsFrom (r .table))
   pub turned-down : (s : List ℕ) (r : Outcome) → Reads s r → (r .question ≡ 0 → ⊥) → reading s ≡ refused (r .question)

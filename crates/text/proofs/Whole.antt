@@ -63,5 +63,5 @@ module _ (T : Table) {v m : ℕ} (vs : v ≡ variables T) (ms : m ≡ length (fo
         ap₂ (λ (i : ℕ) (l : List (List ℕ)). H ∷ fitting i l) k (lines-found T 0 c f) ∙ sym (fits H (map clauseLine (formula T)) (length o) (omega (arith, e, ap length same-header))) in
         rw z (record {
           text = wrote-same (ap concat q) (wrote-append (omega arith) (wrote-same same-header w) (p .text));
-          next = p .next ∙ omega arith ∙ ap length q;
+          next = p .next ∙ omega (arith, ap length q);
         })

@@ -32,7 +32,7 @@ pub struct Count {
 }
 
 // Is i a member of the set in a word?
-fn holds(w: u64, i: usize) -> bool
+pub fn holds(w: u64, i: usize) -> bool
     ensures { λ r. ⌜ r ≡ contains (w ∷ []) i ⌝ }
 {
     let ws = [w; 1];
@@ -40,7 +40,7 @@ fn holds(w: u64, i: usize) -> bool
 }
 
 // How many members it has.
-fn size(w: u64) -> usize
+pub fn size(w: u64) -> usize
     ensures { λ r. ⌜ (r ≡ length (membersIn w)) × (r ≤ 64) ⌝ }
 {
     let ws = [w; 1];
@@ -135,7 +135,7 @@ fn longest(ws: &[u64], jobs: u64) -> usize
 }
 
 // Has the set a member?
-fn has_some(w: u64) -> bool
+pub fn has_some(w: u64) -> bool
     ensures { λ r. ⌜ r ≡ someIn (membersIn w) ⌝ }
 {
     w != 0
@@ -189,7 +189,7 @@ fn is_inner(left: usize, jobs: u64) -> bool
     has_some(jobs)
 }
 
-fn put_word(out: &mut [u64], at: usize, w: u64) -> usize
+pub fn put_word(out: &mut [u64], at: usize, w: u64) -> usize
     requires { ⌜ at < length (now out) ⌝ }
     ensures { λ r. ⌜ Wrote (now (out .entry)) at (w ∷ []) (now (out .exit)) r ⌝ }
 {

@@ -1,0 +1,128 @@
+-- What each call answers, question by question.
+-- By the definition of the calls.
+use mathlib.Core.Path.{_≡_, refl, sym, ap, ap₂, _∙_, subst}
+use mathlib.Core.Bool.{Bool, true, false, cond, _&&_}
+use mathlib.Core.List.{List, [], _∷_, _++_}
+use Prim.Native.Nat.{ℕ, zero, suc, _+_, _≤_, _<_}
+use native.Mathlib.Omega.{arith}
+use lib.Dec.{leb}
+use lib.ListN.{length, drop}
+use Rattle.lists.specs.Question.{firstUnmet}
+use Rattle.lists.specs.Written.{Wrote}
+use Rattle.lists.proofs.Bool.{leb-in, and-off}
+use Rattle.lists.proofs.Written.{wrote-whole}
+use Rattle.planning.specs.Table.{Table}
+use Rattle.planning.specs.Place.{rootPlace, nodes}
+use Rattle.planning.specs.Record.{records}
+use Rattle.planning.specs.Variable.{variables}
+use Rattle.planning.specs.Clause.{formula}
+use Rattle.planning.specs.Text.{written, bytesUsed, nextLine}
+use Rattle.tree.specs.Words.{treeWords, met10}
+use Rattle.text.specs.Lines.{PutText}
+use Rattle.text.specs.declared.Lines.{Lines}
+use Rattle.encoding.specs.Calls.{met11, enoughTree, enoughText, Verdict, unmet, accepted, ifMet, accepting, byNumber, byVerdict, asked, Answer, turnedDown, taken, textFrom, checking, building, treeAfter, behind9, writing, textAfter}
+use Rattle.encoding.specs.Parts.{Measured, Prepared, Lined}
+use Rattle.encoding.specs.declared.Measure.{Measure}
+use Rattle.encoding.specs.declared.Text.{Text}
+use Rattle.encoding.specs.declared.Text.the-variants.{Refused, Written}
+use Rattle.encoding.proofs.Questions.{leb-no}
+
+-- Any call ---------------------------------------------------------------------------------------------------------------------
+module _ {A : Type 0} (file : List ℕ) (more : Table → List (ℕ × Bool)) (refuse : ℕ → A) (succeed : Table → A) where
+  -- a buffer is too short
+  pub asked-short : {b : Bool} → b ≡ false → asked b file more refuse succeed ≡ refuse 1
+  asked-short e = rw e
+
+  module _ {T : Table} {p : Measure} (prepared : Prepared file T p) {b : Bool} (enough : b ≡ true) where
+    -- one of 2 to 9 is not met
+    pub asked-unmet : (p .question ≡ 0 → ⊥) → asked b file more refuse succeed ≡ refuse (p .question)
+    asked-unmet u = rw enough (ap (λ (v : Verdict). byVerdict v more refuse succeed) (sym (prepared .verdict)) ∙ go (p .question) u)
+      where
+        go : (n : ℕ) → (n ≡ 0 → ⊥) → byVerdict (ifMet n T) more refuse succeed ≡ refuse n
+        go zero u = absurd (u refl)
+        go (suc n) u = refl
+
+    -- all are met
+    pub asked-met : p .question ≡ 0 → asked b file more refuse succeed ≡ byNumber (firstUnmet (more T)) refuse (succeed T)
+    asked-met z = rw enough (ap (λ (v : Verdict). byVerdict v more refuse succeed) (sym (prepared .verdict)) ∙ ap (λ (n : ℕ). byVerdict (ifMet n T) more refuse succeed) z)
+
+-- Questions 10 and 11 ----------------------------------------------------------------------------------------------------------
+first-10 : (T : Table) (tree : List ℕ) (line : ℕ) → met10 T tree ≡ false → firstUnmet (behind9 tree line T) ≡ 10
+first-10 T tree line e = rw e
+
+module _ (T : Table) (tree : List ℕ) (line : ℕ) {o : List ℕ} where
+  pub other-tree : met10 T tree ≡ false → Lined T tree line o o (Refused 10)
+  other-tree e = let f = first-10 T tree line e in record { answer = sym (rw f); left = sym (rw f) }
+
+  pub past-last-line : {k : ℕ} → met10 T tree ≡ true → k ≡ length (formula T) → k < line → Lined T tree line o o (Refused 11)
+  past-last-line {k} e q h =
+      let f : firstUnmet (behind9 tree line T) ≡ 11 = rw (e, leb-no line (length (formula T)) (omega (arith, q))) in
+      record { answer = sym (rw f); left = sym (rw f) }
+
+  pub lined : {k : ℕ} {o′ : List ℕ} {l : Lines} → met10 T tree ≡ true → k ≡ length (formula T) → line ≤ k → PutText T line o o′ l → Lined T tree line o o′ (Written (l .used) (l .next))
+  lined {k} {o′} {l} e q h p =
+      let f : firstUnmet (behind9 tree line T) ≡ 0 = rw (e, leb-in line (length (formula T)) (omega (arith, q))) in
+      let u : l .used ≡ bytesUsed T line (length o) = omega (arith, p .text .end) in
+      record {
+        answer = ap₂ (λ (a b : ℕ). taken (a ∷ b ∷ [])) u (p .next) ∙ sym (rw f);
+        left = wrote-whole (p .text) ∙ sym (rw f);
+      }
+
+-- The calls --------------------------------------------------------------------------------------------------------------------
+module _ (file : List ℕ) {T : Table} {p : Measure} (prepared : Prepared file T p) where
+  pub check-unmet : (p .question ≡ 0 → ⊥) → turnedDown (p .question) ≡ checking file
+  check-unmet u = sym (asked-unmet file (λ T. []) turnedDown (λ T. taken (nodes (rootPlace T) ∷ variables T ∷ length (formula T) ∷ [])) prepared {b = true} refl u)
+
+  pub check-met : {k : ℕ} → p .question ≡ 0 → k ≡ length (formula T) → taken (p .nodes ∷ p .variables ∷ k ∷ []) ≡ checking file
+  check-met {k} z e =
+      let m = prepared .measured z in
+      rw (m .nodes z, m .variables z, e)
+      (sym (asked-met file (λ T. []) turnedDown (λ T. taken (nodes (rootPlace T) ∷ variables T ∷ length (formula T) ∷ [])) prepared {b = true} refl z))
+
+pub build-short : (file tree : List ℕ) → length tree < 5120 → (turnedDown 1 ≡ building file tree) × (tree ≡ treeAfter file tree)
+build-short file tree h =
+    let e : enoughTree tree ≡ false = leb-no 5120 (length tree) h in
+    (sym (asked-short file (λ T. []) turnedDown (λ T. taken (nodes (rootPlace T) ∷ [])) e),
+     sym (asked-short file (λ T. []) (λ n. tree) (λ T. treeWords (records T) ++ drop (length (treeWords (records T))) tree) e))
+
+module _ (file tree : List ℕ) (h : 5120 ≤ length tree) {T : Table} {p : Measure} (prepared : Prepared file T p) where
+  tree-enough : enoughTree tree ≡ true
+  tree-enough = leb-in 5120 (length tree) h
+
+  pub build-unmet : (p .question ≡ 0 → ⊥) → (turnedDown (p .question) ≡ building file tree) × (tree ≡ treeAfter file tree)
+  build-unmet u =
+      (sym (asked-unmet file (λ T. []) turnedDown (λ T. taken (nodes (rootPlace T) ∷ [])) prepared tree-enough u),
+       sym (asked-unmet file (λ T. []) (λ n. tree) (λ T. treeWords (records T) ++ drop (length (treeWords (records T))) tree) prepared tree-enough u))
+
+  pub build-met : {tree′ : List ℕ} {r : ℕ} → p .question ≡ 0 → Wrote tree 0 (treeWords (records T)) tree′ r
+      → (taken (p .nodes ∷ []) ≡ building file tree) × (tree′ ≡ treeAfter file tree)
+  build-met {tree′} {r} z w =
+      let m = prepared .measured z in
+      (rw (m .nodes z) (sym (asked-met file (λ T. []) turnedDown (λ T. taken (nodes (rootPlace T) ∷ [])) prepared tree-enough z)),
+       wrote-whole w ∙ sym (asked-met file (λ T. []) (λ n. tree) (λ T. treeWords (records T) ++ drop (length (treeWords (records T))) tree) prepared tree-enough z))
+
+module _ (file tree : List ℕ) (line : ℕ) (text : List ℕ) where
+  pub text-short : (enoughTree tree && enoughText text) ≡ false → (turnedDown 1 ≡ writing file tree line text) × (text ≡ textAfter file tree line text)
+  text-short e = (sym (asked-short file (behind9 tree line) turnedDown (λ T. taken (bytesUsed T line (length text) ∷ nextLine T line (length text) ∷ [])) e),
+      sym (asked-short file (behind9 tree line) (λ n. text) (λ T. written T line (length text) ++ drop (bytesUsed T line (length text)) text) e))
+
+  pub short-tree : length tree < 5120 → (enoughTree tree && enoughText text) ≡ false
+  short-tree h = rw (leb-no 5120 (length tree) h)
+
+  pub short-text : length text < 1024 → (enoughTree tree && enoughText text) ≡ false
+  short-text h = rw (leb-no 1024 (length text) h) (and-off (enoughTree tree))
+
+  module _ (h : 5120 ≤ length tree) (k : 1024 ≤ length text) {T : Table} {p : Measure} (prepared : Prepared file T p) where
+    enough : (enoughTree tree && enoughText text) ≡ true
+    enough = rw (leb-in 5120 (length tree) h, leb-in 1024 (length text) k)
+
+    pub text-unmet : (p .question ≡ 0 → ⊥) → (turnedDown (p .question) ≡ writing file tree line text) × (text ≡ textAfter file tree line text)
+    text-unmet u =
+        (sym (asked-unmet file (behind9 tree line) turnedDown (λ T. taken (bytesUsed T line (length text) ∷ nextLine T line (length text) ∷ [])) prepared enough u),
+         sym (asked-unmet file (behind9 tree line) (λ n. text) (λ T. written T line (length text) ++ drop (bytesUsed T line (length text)) text) prepared enough u))
+
+    pub text-met : {text′ : List ℕ} {r : Text} → p .question ≡ 0 → Lined T tree line text text′ r
+        → (textFrom r ≡ writing file tree line text) × (text′ ≡ textAfter file tree line text)
+    text-met z l =
+        (l .answer ∙ sym (asked-met file (behind9 tree line) turnedDown (λ T. taken (bytesUsed T line (length text) ∷ nextLine T line (length text) ∷ [])) prepared enough z),
+         l .left ∙ sym (asked-met file (behind9 tree line) (λ n. text) (λ T. written T line (length text) ++ drop (bytesUsed T line (length text)) text) prepared enough z))

@@ -1,0 +1,87 @@
+-- The lent tree beside the table's own: question 10, and what stands where it is met.
+-- By places, one after the other.
+use mathlib.Core.Path.{_≡_, refl, sym, ap, ap₂, _∙_, subst}
+use mathlib.Core.Bool.{Bool, true, false, _&&_}
+use mathlib.Core.List.{List, [], _∷_, _++_}
+use Prim.Native.Nat.{ℕ, zero, suc, _+_, _-_, _*_, _≤_, _<_}
+use native.Mathlib.Omega.{arith}
+use lib.Dec.{eqb}
+use lib.ListN.{length, getD, take, drop, length-append, length-take, List·getD-append}
+use lib.Seq.{getD-take, length-take-le}
+use Rattle.lists.specs.List.{all, from, upTo}
+use Rattle.lists.specs.Written.{Wrote}
+use Rattle.lists.proofs.Bool.{eqb-sound}
+use Rattle.lists.proofs.Member.{all-out}
+use Rattle.lists.proofs.Number.{upTo-in}
+use Rattle.lists.proofs.Written.{wrote-front, wrote-whole}
+use Rattle.bitset.specs.Set.{setOf}
+use Rattle.planning.specs.Table.{Table}
+use Rattle.planning.specs.Place.{rootPlace, nodes}
+use Rattle.planning.specs.Record.{Record, records}
+use Rattle.planning.specs.Clause.{formula}
+use Rattle.planning.specs.Accepted.{Accepted}
+use Rattle.planning.proofs.Record.{records-count}
+use Rattle.places.specs.Total.{clauseCount}
+use Rattle.places.specs.Lookup.{noRecord}
+use Rattle.places.proofs.Total.{formula-count}
+use Rattle.index.specs.Index.{source, indexOf}
+use Rattle.index.proofs.Blocks.{length-fives}
+use Rattle.index.proofs.Known.{set-length}
+use Rattle.shape.specs.Shape.{Indexed}
+use Rattle.tree.specs.Words.{recordWords, treeWords, met10}
+use Rattle.tree.specs.Visit.{Known}
+
+-- How long it is -------------------------------------------------------------------------------------------------------------
+five-words : (r : Record) → length (recordWords r) ≡ 5
+five-words r = omega (arith, length-append (setOf 1 (r .label .steps)) (setOf 1 (r .label .jobs)), set-length (r .label .steps), set-length (r .label .jobs))
+
+pub tree-length : (T : Table) → length (treeWords (records T)) ≡ 5 * nodes (rootPlace T)
+tree-length T = length-fives recordWords noRecord five-words (records T) ∙ ap (λ (n : ℕ). 5 * n) (records-count T)
+
+pub known-of : {T : Table} → Accepted T → Known T
+known-of a = record { sound = a .sound; limits = a .limits }
+
+module _ (T : Table) (a : Accepted T) {o o′ : List ℕ} {n : ℕ} (w : Wrote o 0 (treeWords (records T)) o′ n) where
+  pub tree-end : (n ≡ length (treeWords (records T))) × (n ≤ 5120)
+  tree-end = (omega (arith, w .end), omega (arith, w .end, tree-length T, a .few-nodes))
+
+  -- the words written
+  pub tree-front : take n o′ ≡ treeWords (records T)
+  tree-front = wrote-front w
+
+module _ (T : Table) (a : Accepted T) {o o′ : List ℕ} {m : ℕ} (w : Wrote o 0 (indexOf T) o′ m) where
+  pub index-front : Indexed T (take m o′)
+  index-front = record { accepted = a; index = wrote-front w }
+
+pub clauses-are : (T : Table) {k : ℕ} → k ≡ clauseCount (source T) → k ≡ length (formula T)
+clauses-are T e = e ∙ sym (formula-count T)
+
+-- Question 10 ----------------------------------------------------------------------------------------------------------------
+all-below : (p q : ℕ → Bool) (k n : ℕ) → ((i : ℕ) → k ≤ i → i < k + n → p i ≡ q i) → all p (from k n) ≡ all q (from k n)
+all-below p q k zero f = refl
+all-below p q k (suc n) f = ap₂ (λ (a b : Bool). a && b) (f k (omega arith) (omega arith)) (all-below p q (suc k) n (λ i h l. f i (omega arith) (omega arith)))
+
+same-by-place : (xs ys : List ℕ) → length xs ≡ length ys → ((i : ℕ) → i < length xs → getD xs i 0 ≡ getD ys i 0) → xs ≡ ys
+same-by-place [] [] e f = refl
+same-by-place [] (y ∷ ys) e f = absurd (omega arith)
+same-by-place (x ∷ xs) [] e f = absurd (omega arith)
+same-by-place (x ∷ xs) (y ∷ ys) e f = ap₂ (λ (a : ℕ) (l : List ℕ). a ∷ l) (f 0 (omega arith)) (same-by-place xs ys (omega arith) (λ i h. f (suc i) (omega arith)))
+
+module _ (T : Table) (tree : List ℕ) {o o′ : List ℕ} {n : ℕ} (w : Wrote o 0 (treeWords (records T)) o′ n) where
+  -- the comparison with what was written is question 10
+  pub compared : {b : Bool} → b ≡ all (λ i. eqb (getD tree i 0) (getD o′ i 0)) (upTo n) → b ≡ met10 T tree
+  compared {b} e =
+      let z : n ≡ length (treeWords (records T)) = omega (arith, w .end) in
+      e ∙ ap (λ (k : ℕ). all (λ i. eqb (getD tree i 0) (getD o′ i 0)) (upTo k)) z
+      ∙ all-below (λ i. eqb (getD tree i 0) (getD o′ i 0)) (λ i. eqb (getD tree i 0) (getD (treeWords (records T)) i 0)) 0 (length (treeWords (records T)))
+      (λ i h l. ap (eqb (getD tree i 0)) (ap (λ (l : List ℕ). getD l i 0) (wrote-whole w) ∙ List·getD-append (treeWords (records T)) (drop (length (treeWords (records T))) o) 0 i (omega arith)))
+
+  -- where it is met the lent tree begins with the table's records
+  pub lent-front : met10 T tree ≡ true → n ≤ length tree → take n tree ≡ treeWords (records T)
+  lent-front t h =
+      let z : n ≡ length (treeWords (records T)) = omega (arith, w .end) in
+      same-by-place (take n tree) (treeWords (records T)) (length-take-le n tree h ∙ z)
+      (λ i l.
+      let k : i < n = omega (arith, length-take-le n tree h) in
+      getD-take n tree i 0 k
+      ∙ eqb-sound (getD tree i 0) (getD (treeWords (records T)) i 0) (all-out (λ i. eqb (getD tree i 0) (getD (treeWords (records T)) i 0)) (upTo (length (treeWords (records T)))) t i (upTo-in i (length (treeWords (records T))) (omega arith))))

@@ -1,0 +1,4 @@
+-- Laws, by topic.
+pub mod Questions
+pub mod Compared
+pub mod Answers

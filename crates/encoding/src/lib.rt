@@ -1,0 +1,118 @@
+// The formula part's calls: any file, any lent tree, any line and any buffer. Each puts its questions in document 01's order and hands
+// back the number of the first that is not met, or its values; on a refusal nothing lent has changed.
+ghost use mathlib.Core.Path.{_≡_};
+ghost use mathlib.Core.List.{[], _∷_, _++_};
+ghost use Prim.Native.Nat.{_+_, _≤_, _<_};
+ghost use lib.ListN.{length, take, drop};
+ghost use Rattle.planning.specs.Clause.{formula};
+ghost use Rattle.planning.specs.Variable.{variables as variablesOf};
+ghost use Rattle.planning.specs.Accepted.{Accepted as AcceptedTable};
+ghost use Rattle.sheet.specs.Sheet.{sheetSize, tableIn};
+ghost use Rattle.tree.specs.Visit.{Known};
+ghost use Rattle.encoding.specs.Calls.{checkedFrom, checking, builtFrom, building, treeAfter, textFrom, writing, textAfter};
+ghost use Rattle.encoding.specs.Parts.{Measured, Prepared, Lined};
+
+// The answers: the number of a question that is not met, or the values.
+pub enum Checked {
+    Refused(usize),
+    Accepted(usize, usize, usize),
+}
+
+pub enum Built {
+    Refused(usize),
+    Nodes(usize),
+}
+
+pub enum Text {
+    Refused(usize),
+    Written(usize, usize),
+}
+
+// Questions 8 and 9: the number of the first that is not met, or 0, and how many nodes and variables there are.
+pub struct Measure {
+    pub question: usize,
+    pub nodes: usize,
+    pub variables: usize,
+}
+
+fn unmet(question: usize) -> Measure
+    ensures { λ r. ⌜ (r .question ≡ question) ⌝ }
+{
+    Measure {
+        question: question,
+        nodes: 0,
+        variables: 0,
+    }
+}
+
+fn measure_of(ws: &[u64]) -> Measure
+    requires { ⌜ Known (tableIn (now ws)) ⌝ }
+    ensures { λ r. ⌜ Measured (tableIn (now (ws .entry))) r ⌝ }
+{
+    let c = tree::count_all(ws);
+    if c.nodes > 1024 {
+        return unmet(8);
+    }
+    let v = c.variables + (c.slots + 1) * sheet::facts(ws);
+    if v > 8191 {
+        return unmet(9);
+    }
+    Measure {
+        question: 0,
+        nodes: c.nodes,
+        variables: v,
+    }
+}
+
+// Questions 2 to 9. The table's sheet is left in ws.
+fn prepare(file: &[u8], ws: &mut [u64]) -> Measure
+    requires { ⌜ sheetSize ≤ length (now ws) ⌝ }
+    ensures { λ r. ⌜ Prepared (now (file .entry)) (tableIn (now (ws .exit))) r ⌝ }
+{
+    let read = table::read(file);
+    if read.question != 0 {
+        return unmet(read.question);
+    }
+    sheet::fill(read.table, ws);
+    measure_of(ws)
+}
+
+// How many clauses there are.
+fn count_clauses(ws: &[u64]) -> usize
+    requires { ⌜ AcceptedTable (tableIn (now ws)) ⌝ }
+    ensures { λ r. ⌜ (r ≡ length (formula (tableIn (now (ws .entry))))) ⌝ }
+{
+    let mut words = [0u64; 5120];
+    let n = tree::build(ws, &mut words);
+    let mut ix = [0u64; 24578];
+    let m = indexing::fill(ws, &words[..n], &mut ix);
+    cursor::count_all(ws, &ix[..m])
+}
+
+// Checks a table: questions 2 to 9.
+pub fn check(file: &[u8]) -> Checked
+    ensures { λ r. ⌜ checkedFrom r ≡ checking (now (file .entry)) ⌝ }
+{
+    let mut ws = [0u64; 1479];
+    let p = prepare(file, &mut ws);
+    if p.question != 0 {
+        return Checked::Refused(p.question);
+    }
+    Checked::Accepted(p.nodes, p.variables, count_clauses(&ws))
+}
+
+// Builds the tree: questions 1 and 2 to 9. All are put before a record is written.
+pub fn build(file: &[u8], tree: &mut [u64]) -> Built
+    ensures { λ r. ⌜ (builtFrom r ≡ building (now (file .entry)) (now (tree .entry))) × (now (tree .exit) ≡ treeAfter (now (file .entry)) (now (tree .entry))) ⌝ }
+{
+    if tree.len() < 5120 {
+        return Built::Refused(1);
+    }
+    let mut ws = [0u64; 1479];
+    let p = prepare(file, &mut ws);
+    if p.question != 0 {
+        return Built::Refused(p.question);
+    }
+    tree::build(&ws, tree);
+    Built::Nodes(p.nodes)
+}
