@@ -81,30 +81,35 @@ module _ (file : List ℕ) {T : Table} {p : Measure} (prepared : Prepared file T
 
 pub build-short : (file tree : List ℕ) → length tree < 5120 → (turnedDown 1 ≡ building file tree) × (tree ≡ treeAfter file tree)
 build-short file tree h =
-    let e : enoughTree tree ≡ false = leb-no 5120 (length tree) h in
-    (sym (asked-short file (λ T. []) turnedDown (λ T. taken (nodes (rootPlace T) ∷ [])) e),
-     sym (asked-short file (λ T. []) (λ n. tree) (λ T. treeWords (records T) ++ drop (length (treeWords (records T))) tree) e))
+    let e : enoughTree tree ≡ false = leb-no 5120 (length tree) h in (
+      sym (asked-short file (λ T. []) turnedDown (λ T. taken (nodes (rootPlace T) ∷ [])) e),
+      sym (asked-short file (λ T. []) (λ n. tree) (λ T. treeWords (records T) ++ drop (length (treeWords (records T))) tree) e),
+    )
 
 module _ (file tree : List ℕ) (h : 5120 ≤ length tree) {T : Table} {p : Measure} (prepared : Prepared file T p) where
   tree-enough : enoughTree tree ≡ true
   tree-enough = leb-in 5120 (length tree) h
 
   pub build-unmet : (p .question ≡ 0 → ⊥) → (turnedDown (p .question) ≡ building file tree) × (tree ≡ treeAfter file tree)
-  build-unmet u =
-      (sym (asked-unmet file (λ T. []) turnedDown (λ T. taken (nodes (rootPlace T) ∷ [])) prepared tree-enough u),
-       sym (asked-unmet file (λ T. []) (λ n. tree) (λ T. treeWords (records T) ++ drop (length (treeWords (records T))) tree) prepared tree-enough u))
+  build-unmet u = (
+    sym (asked-unmet file (λ T. []) turnedDown (λ T. taken (nodes (rootPlace T) ∷ [])) prepared tree-enough u),
+    sym (asked-unmet file (λ T. []) (λ n. tree) (λ T. treeWords (records T) ++ drop (length (treeWords (records T))) tree) prepared tree-enough u),
+  )
 
   pub build-met : {tree′ : List ℕ} {r : ℕ} → p .question ≡ 0 → Wrote tree 0 (treeWords (records T)) tree′ r
       → (taken (p .nodes ∷ []) ≡ building file tree) × (tree′ ≡ treeAfter file tree)
   build-met {tree′} {r} z w =
-      let m = prepared .measured z in
-      (rw (m .nodes z) (sym (asked-met file (λ T. []) turnedDown (λ T. taken (nodes (rootPlace T) ∷ [])) prepared tree-enough z)),
-       wrote-whole w ∙ sym (asked-met file (λ T. []) (λ n. tree) (λ T. treeWords (records T) ++ drop (length (treeWords (records T))) tree) prepared tree-enough z))
+      let m = prepared .measured z in (
+        rw (m .nodes z) (sym (asked-met file (λ T. []) turnedDown (λ T. taken (nodes (rootPlace T) ∷ [])) prepared tree-enough z)),
+        wrote-whole w ∙ sym (asked-met file (λ T. []) (λ n. tree) (λ T. treeWords (records T) ++ drop (length (treeWords (records T))) tree) prepared tree-enough z),
+      )
 
 module _ (file tree : List ℕ) (line : ℕ) (text : List ℕ) where
   pub text-short : (enoughTree tree && enoughText text) ≡ false → (turnedDown 1 ≡ writing file tree line text) × (text ≡ textAfter file tree line text)
-  text-short e = (sym (asked-short file (behind9 tree line) turnedDown (λ T. taken (bytesUsed T line (length text) ∷ nextLine T line (length text) ∷ [])) e),
-      sym (asked-short file (behind9 tree line) (λ n. text) (λ T. written T line (length text) ++ drop (bytesUsed T line (length text)) text) e))
+  text-short e = (
+    sym (asked-short file (behind9 tree line) turnedDown (λ T. taken (bytesUsed T line (length text) ∷ nextLine T line (length text) ∷ [])) e),
+    sym (asked-short file (behind9 tree line) (λ n. text) (λ T. written T line (length text) ++ drop (bytesUsed T line (length text)) text) e),
+  )
 
   pub short-tree : length tree < 5120 → (enoughTree tree && enoughText text) ≡ false
   short-tree h = rw (leb-no 5120 (length tree) h)
@@ -117,12 +122,14 @@ module _ (file tree : List ℕ) (line : ℕ) (text : List ℕ) where
     enough = rw (leb-in 5120 (length tree) h, leb-in 1024 (length text) k)
 
     pub text-unmet : (p .question ≡ 0 → ⊥) → (turnedDown (p .question) ≡ writing file tree line text) × (text ≡ textAfter file tree line text)
-    text-unmet u =
-        (sym (asked-unmet file (behind9 tree line) turnedDown (λ T. taken (bytesUsed T line (length text) ∷ nextLine T line (length text) ∷ [])) prepared enough u),
-         sym (asked-unmet file (behind9 tree line) (λ n. text) (λ T. written T line (length text) ++ drop (bytesUsed T line (length text)) text) prepared enough u))
+    text-unmet u = (
+      sym (asked-unmet file (behind9 tree line) turnedDown (λ T. taken (bytesUsed T line (length text) ∷ nextLine T line (length text) ∷ [])) prepared enough u),
+      sym (asked-unmet file (behind9 tree line) (λ n. text) (λ T. written T line (length text) ++ drop (bytesUsed T line (length text)) text) prepared enough u),
+    )
 
     pub text-met : {text′ : List ℕ} {r : Text} → p .question ≡ 0 → Lined T tree line text text′ r
         → (textFrom r ≡ writing file tree line text) × (text′ ≡ textAfter file tree line text)
-    text-met z l =
-        (l .answer ∙ sym (asked-met file (behind9 tree line) turnedDown (λ T. taken (bytesUsed T line (length text) ∷ nextLine T line (length text) ∷ [])) prepared enough z),
-         l .left ∙ sym (asked-met file (behind9 tree line) (λ n. text) (λ T. written T line (length text) ++ drop (bytesUsed T line (length text)) text) prepared enough z))
+    text-met z l = (
+      l .answer ∙ sym (asked-met file (behind9 tree line) turnedDown (λ T. taken (bytesUsed T line (length text) ∷ nextLine T line (length text) ∷ [])) prepared enough z),
+      l .left ∙ sym (asked-met file (behind9 tree line) (λ n. text) (λ T. written T line (length text) ++ drop (bytesUsed T line (length text)) text) prepared enough z),
+    )

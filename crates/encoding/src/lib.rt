@@ -116,3 +116,47 @@ pub fn build(file: &[u8], tree: &mut [u64]) -> Built
     tree::build(&ws, tree);
     Built::Nodes(p.nodes)
 }
+
+// Questions 10 and 11, and the lines.
+fn write_lines<'a, 'b>(
+    ws: &'a [u64],
+    tree: &'a [u64],
+    text: &'b mut [u8],
+    variables: usize,
+    line: usize,
+) -> Text
+    requires { ⌜ AcceptedTable (tableIn (now ws)) × (variables ≡ variablesOf (tableIn (now ws))) × (5120 ≤ length (now tree)) ⌝ }
+    ensures { λ r. ⌜ Lined (tableIn (now (ws .entry))) (now (tree .entry)) line (now (text .entry)) (now (text .exit)) r ⌝ }
+{
+    let mut words = [0u64; 5120];
+    let n = tree::build(ws, &mut words);
+    if !tree::is_same(tree, &words, n) {
+        return Text::Refused(10);
+    }
+    let mut ix = [0u64; 24578];
+    let m = indexing::fill(ws, &tree[..n], &mut ix);
+    let clauses = cursor::count_all(ws, &ix[..m]);
+    if line > clauses {
+        return Text::Refused(11);
+    }
+    let l = text::put_text(ws, &ix[..m], text, variables, clauses, line);
+    Text::Written(l.used, l.next)
+}
+
+// Writes text: questions 1, 2 to 9, 10 and 11.
+pub fn write_text(file: &[u8], tree: &[u64], line: usize, text: &mut [u8]) -> Text
+    ensures { λ r. ⌜ (textFrom r ≡ writing (now (file .entry)) (now (tree .entry)) line (now (text .entry))) × (now (text .exit) ≡ textAfter (now (file .entry)) (now (tree .entry)) line (now (text .entry))) ⌝ }
+{
+    if tree.len() < 5120 {
+        return Text::Refused(1);
+    }
+    if text.len() < 1024 {
+        return Text::Refused(1);
+    }
+    let mut ws = [0u64; 1479];
+    let p = prepare(file, &mut ws);
+    if p.question != 0 {
+        return Text::Refused(p.question);
+    }
+    write_lines(&ws, tree, text, p.variables, line)
+}

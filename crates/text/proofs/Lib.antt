@@ -1,3 +1,4 @@
 -- Laws.
 pub mod Writing
 pub mod Whole
+pub mod Codes

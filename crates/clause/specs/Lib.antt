@@ -1,0 +1,2 @@
+-- Inside the encoding: the literals of one clause.
+pub mod Parts
