@@ -70,3 +70,45 @@ readPart w r (some l) = readNumber w r l
 abbrev pub readParts : Word → Reading → List (List ℕ) → Option Reading
 readParts w r [] = some r
 readParts w r (p ∷ ps) = andOn (readPart w r (numberOf p)) (λ s. readParts w s ps)
+
+-- what stands after the letter: nothing, or a space and more
+abbrev pub behindLetter : Option Reading → (List ℕ → Option Reading) → List ℕ → Option Reading
+behindLetter alone more [] = alone
+behindLetter alone more (b ∷ bs) = cond (eqb b 32) (more bs) none
+
+-- a line behind the `s` line
+abbrev pub readLine : Word → Reading → List ℕ → Option Reading
+readLine w r [] = none
+readLine w r (b ∷ bs) =
+    cond (eqb b 99) (behindLetter (some r) (λ more. some r) bs)
+    (cond (eqb b 118) (behindLetter none (λ more. readParts w r (split 32 more)) bs) none)
+
+abbrev pub readLines : Word → Reading → List (List ℕ) → Option Reading
+readLines w r [] = some r
+readLines w r (l ∷ ls) = andOn (readLine w r l) (λ s. readLines w s ls)
+
+-- The end ------------------------------------------------------------------------------------------------------------------------
+-- the number of the first of 12 to 14 that is not met, or 0; and the cells
+abbrev pub placed : Reading → Bool
+placed r = not (r .off) && all (λ c. ltb c 2) (r .cells)
+
+abbrev pub decide : Word → Option Reading → ℕ × List ℕ
+decide w none = (12, [])
+decide satisfiable (some r) = cond (r .ended) (cond (placed r) (0, r .cells) (14, [])) (12, [])
+decide unsatisfiable (some r) = (13, [])
+decide unknown (some r) = (13, [])
+
+-- `c` lines are passed over up to the `s` line
+abbrev pub fromLine : ℕ → Line → (more : ℕ × List ℕ) → List (List ℕ) → ℕ × List ℕ
+fromLine n comment more ls = more
+fromLine n (says w) more ls = decide w (readLines w (begin n) ls)
+fromLine n (sets ks) more ls = (12, [])
+fromLine n unformed more ls = (12, [])
+
+abbrev pub readFrom : ℕ → List (List ℕ) → ℕ × List ℕ
+readFrom n [] = (12, [])
+readFrom n (l ∷ ls) = fromLine n (lineOf l) (readFrom n ls) ls
+
+-- an answer for n variables
+unfoldable pub heard : ℕ → List ℕ → ℕ × List ℕ
+heard n bs = cond (leb (length bs) 65536 && allEnded bs) (readFrom n (ended LF bs)) (12, [])
