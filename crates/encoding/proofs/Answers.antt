@@ -3,7 +3,7 @@
 use mathlib.Core.Path.{_≡_, refl, sym, ap, ap₂, _∙_, subst}
 use mathlib.Core.Bool.{Bool, true, false, cond, _&&_}
 use mathlib.Core.List.{List, [], _∷_, _++_}
-use Prim.Native.Nat.{ℕ, zero, suc, _+_, _≤_, _<_}
+use Prim.Native.Nat.{ℕ, _+_, _≤_, _<_}
 use native.Mathlib.Omega.{arith}
 use lib.Dec.{leb}
 use lib.ListN.{length, drop}
@@ -20,31 +20,15 @@ use Rattle.planning.specs.Text.{written, bytesUsed, nextLine}
 use Rattle.tree.specs.Words.{treeWords, met10}
 use Rattle.text.specs.Lines.{PutText}
 use Rattle.text.specs.declared.Lines.{Lines}
-use Rattle.encoding.specs.Calls.{met11, enoughTree, enoughText, Verdict, unmet, accepted, ifMet, accepting, byNumber, byVerdict, asked, Answer, turnedDown, taken, textFrom, checking, building, treeAfter, behind9, writing, textAfter}
-use Rattle.encoding.specs.Parts.{Measured, Prepared, Lined}
-use Rattle.encoding.specs.declared.Measure.{Measure}
+use Rattle.encoding.specs.Calls.{met11, enoughText, textFrom, checking, building, treeAfter, behind9, writing, textAfter}
+use Rattle.encoding.specs.Parts.{Lined}
 use Rattle.encoding.specs.declared.Text.{Text}
 use Rattle.encoding.specs.declared.Text.the-variants.{Refused, Written}
-use Rattle.encoding.proofs.Questions.{leb-no}
-
--- Any call ---------------------------------------------------------------------------------------------------------------------
-module _ {A : Type 0} (file : List ℕ) (more : Table → List (ℕ × Bool)) (refuse : ℕ → A) (succeed : Table → A) where
-  -- a buffer is too short
-  pub asked-short : {b : Bool} → b ≡ false → asked b file more refuse succeed ≡ refuse 1
-  asked-short e = rw e
-
-  module _ {T : Table} {p : Measure} (prepared : Prepared file T p) {b : Bool} (enough : b ≡ true) where
-    -- one of 2 to 9 is not met
-    pub asked-unmet : (p .question ≡ 0 → ⊥) → asked b file more refuse succeed ≡ refuse (p .question)
-    asked-unmet u = rw enough (ap (λ (v : Verdict). byVerdict v more refuse succeed) (sym (prepared .verdict)) ∙ go (p .question) u)
-      where
-        go : (n : ℕ) → (n ≡ 0 → ⊥) → byVerdict (ifMet n T) more refuse succeed ≡ refuse n
-        go zero u = absurd (u refl)
-        go (suc n) u = refl
-
-    -- all are met
-    pub asked-met : p .question ≡ 0 → asked b file more refuse succeed ≡ byNumber (firstUnmet (more T)) refuse (succeed T)
-    asked-met z = rw enough (ap (λ (v : Verdict). byVerdict v more refuse succeed) (sym (prepared .verdict)) ∙ ap (λ (n : ℕ). byVerdict (ifMet n T) more refuse succeed) z)
+use Rattle.questions.specs.Questions.{enoughTree, byNumber, asked, turnedDown, taken}
+use Rattle.questions.specs.Parts.{IsPrepared, Placed}
+use Rattle.questions.specs.declared.Prepared.{Prepared}
+use Rattle.questions.proofs.Preparing.{leb-no}
+use Rattle.questions.proofs.Asked.{asked-short, asked-unmet, asked-met}
 
 -- Questions 10 and 11 ----------------------------------------------------------------------------------------------------------
 first-10 : (T : Table) (tree : List ℕ) (line : ℕ) → met10 T tree ≡ false → firstUnmet (behind9 tree line T) ≡ 10
@@ -69,14 +53,13 @@ module _ (T : Table) (tree : List ℕ) (line : ℕ) {o : List ℕ} where
       }
 
 -- The calls --------------------------------------------------------------------------------------------------------------------
-module _ (file : List ℕ) {T : Table} {p : Measure} (prepared : Prepared file T p) where
+module _ (file : List ℕ) {T : Table} {p : Prepared} (prepared : IsPrepared file T p) where
   pub check-unmet : (p .question ≡ 0 → ⊥) → turnedDown (p .question) ≡ checking file
   check-unmet u = sym (asked-unmet file (λ T. []) turnedDown (λ T. taken (nodes (rootPlace T) ∷ variables T ∷ length (formula T) ∷ [])) prepared {b = true} refl u)
 
   pub check-met : {k : ℕ} → p .question ≡ 0 → k ≡ length (formula T) → taken (p .nodes ∷ p .variables ∷ k ∷ []) ≡ checking file
   check-met {k} z e =
-      let m = prepared .measured z in
-      rw (m .nodes z, m .variables z, e)
+      rw (prepared .nodes z, prepared .variables z, e)
       (sym (asked-met file (λ T. []) turnedDown (λ T. taken (nodes (rootPlace T) ∷ variables T ∷ length (formula T) ∷ [])) prepared {b = true} refl z))
 
 pub build-short : (file tree : List ℕ) → length tree < 5120 → (turnedDown 1 ≡ building file tree) × (tree ≡ treeAfter file tree)
@@ -86,7 +69,7 @@ build-short file tree h =
       sym (asked-short file (λ T. []) (λ n. tree) (λ T. treeWords (records T) ++ drop (length (treeWords (records T))) tree) e),
     )
 
-module _ (file tree : List ℕ) (h : 5120 ≤ length tree) {T : Table} {p : Measure} (prepared : Prepared file T p) where
+module _ (file tree : List ℕ) (h : 5120 ≤ length tree) {T : Table} {p : Prepared} (prepared : IsPrepared file T p) where
   tree-enough : enoughTree tree ≡ true
   tree-enough = leb-in 5120 (length tree) h
 
@@ -99,8 +82,8 @@ module _ (file tree : List ℕ) (h : 5120 ≤ length tree) {T : Table} {p : Meas
   pub build-met : {tree′ : List ℕ} {r : ℕ} → p .question ≡ 0 → Wrote tree 0 (treeWords (records T)) tree′ r
       → (taken (p .nodes ∷ []) ≡ building file tree) × (tree′ ≡ treeAfter file tree)
   build-met {tree′} {r} z w =
-      let m = prepared .measured z in (
-        rw (m .nodes z) (sym (asked-met file (λ T. []) turnedDown (λ T. taken (nodes (rootPlace T) ∷ [])) prepared tree-enough z)),
+      (
+        rw (prepared .nodes z) (sym (asked-met file (λ T. []) turnedDown (λ T. taken (nodes (rootPlace T) ∷ [])) prepared tree-enough z)),
         wrote-whole w ∙ sym (asked-met file (λ T. []) (λ n. tree) (λ T. treeWords (records T) ++ drop (length (treeWords (records T))) tree) prepared tree-enough z),
       )
 
@@ -117,7 +100,7 @@ module _ (file tree : List ℕ) (line : ℕ) (text : List ℕ) where
   pub short-text : length text < 1024 → (enoughTree tree && enoughText text) ≡ false
   short-text h = rw (leb-no 1024 (length text) h) (and-off (enoughTree tree))
 
-  module _ (h : 5120 ≤ length tree) (k : 1024 ≤ length text) {T : Table} {p : Measure} (prepared : Prepared file T p) where
+  module _ (h : 5120 ≤ length tree) (k : 1024 ≤ length text) {T : Table} {p : Prepared} (prepared : IsPrepared file T p) where
     enough : (enoughTree tree && enoughText text) ≡ true
     enough = rw (leb-in 5120 (length tree) h, leb-in 1024 (length text) k)
 

@@ -1,4 +1,3 @@
 -- Laws, by topic.
-pub mod Questions
-pub mod Compared
+pub mod Counted
 pub mod Answers

@@ -1,19 +1,18 @@
 -- The calls of the formula part: what each answers and leaves in what it was lent, for every file, every buffer and every line.
 -- Assumes nothing.
-use mathlib.Core.Bool.{Bool, true, cond, _&&_}
+use mathlib.Core.Bool.{Bool, true, _&&_}
 use mathlib.Core.List.{List, [], _∷_, _++_}
-use Prim.Native.Nat.{ℕ, zero, suc}
+use Prim.Native.Nat.{ℕ}
 use lib.Dec.{leb}
 use lib.ListN.{length, drop}
-use Rattle.lists.specs.Question.{firstUnmet}
 use Rattle.planning.specs.Table.{Table}
 use Rattle.planning.specs.Place.{rootPlace, nodes}
 use Rattle.planning.specs.Record.{records}
 use Rattle.planning.specs.Variable.{variables}
 use Rattle.planning.specs.Clause.{formula}
 use Rattle.planning.specs.Text.{written, bytesUsed, nextLine}
-use Rattle.table.specs.Reading.{Reading, refused, passed, reading}
 use Rattle.tree.specs.Words.{treeWords, met10}
+use Rattle.questions.specs.Questions.{enoughTree, asked, Answer, turnedDown, taken}
 use Rattle.encoding.specs.declared.Checked.{Checked}
 use Rattle.encoding.specs.declared.Checked.the-variants.{Refused as CheckRefused, Accepted as CheckAccepted}
 use Rattle.encoding.specs.declared.Built.{Built}
@@ -21,62 +20,13 @@ use Rattle.encoding.specs.declared.Built.the-variants.{Refused as BuildR
 use Rattle.encoding.specs.declared.Text.{Text}
 use Rattle.encoding.specs.declared.Text.the-variants.{Refused as TextRefused, Written}
 
--- Questions ------------------------------------------------------------------------------------------------------------------
--- 8. "Has the tree at most 1,024 nodes?"
-abbrev pub met8 : Table → Bool
-met8 T = leb (nodes (rootPlace T)) 1024
-
--- 9. "Are there at most 8,191 variables?"
-abbrev pub met9 : Table → Bool
-met9 T = leb (variables T) 8191
-
--- 11. "Is the line asked for at most the clause count?" (10 stands in crate `tree`, beside the form of the records.)
+-- 11. "Is the line asked for at most the clause count?" (10 stands in crate `tree`, beside the form of the records; 1 to 9 in `questions`.)
 abbrev pub met11 : Table → ℕ → Bool
 met11 T line = leb line (length (formula T))
 
--- 1. "Are lent buffers long enough: 1,024 records for the tree, 1,024 bytes for text ..?" A record has five words
-abbrev pub enoughTree : List ℕ → Bool
-enoughTree tree = leb 5120 (length tree)
-
+-- 1. "Are lent buffers long enough: .. 1,024 bytes for text ..?"
 abbrev pub enoughText : List ℕ → Bool
 enoughText text = leb 1024 (length text)
-
--- "A table is accepted if 2 to 9 are met": the number of the first question that a file does not meet, or its table
-pub data Verdict : Type 0 where
-  unmet : ℕ → Verdict
-  accepted : Table → Verdict
-
--- the number is 0 where all are met
-abbrev pub ifMet : ℕ → Table → Verdict
-ifMet zero T = accepted T
-ifMet (suc n) T = unmet (suc n)
-
-abbrev pub afterReading : Reading → Verdict
-afterReading (refused n) = unmet n
-afterReading (passed T names) = ifMet (firstUnmet ((8, met8 T) ∷ (9, met9 T) ∷ [])) T
-
-abbrev pub accepting : List ℕ → Verdict
-accepting file = afterReading (reading file)
-
--- Calls ------------------------------------------------------------------------------------------------------------------------
--- "Each call puts those that concern what it was lent", in sequence: 1, where there is a buffer, then 2 to 9, then those behind 9. What
--- comes of it: by the number of the first question that is not met, or by the table
-module _ {A : Type 0} where
-  abbrev pub byNumber : ℕ → (refuse : ℕ → A) → A → A
-  byNumber zero refuse a = a
-  byNumber (suc n) refuse a = refuse (suc n)
-
-  abbrev pub byVerdict : Verdict → (behind9 : Table → List (ℕ × Bool)) → (refuse : ℕ → A) → (succeed : Table → A) → A
-  byVerdict (unmet n) behind9 refuse succeed = refuse n
-  byVerdict (accepted T) behind9 refuse succeed = byNumber (firstUnmet (behind9 T)) refuse (succeed T)
-
-  abbrev pub asked : (enough : Bool) → (file : List ℕ) → (behind9 : Table → List (ℕ × Bool)) → (refuse : ℕ → A) → (succeed : Table → A) → A
-  asked enough file behind9 refuse succeed = cond enough (byVerdict (accepting file) behind9 refuse succeed) (refuse 1)
-
--- What a call hands back: "that number alone", or its values in order
-pub data Answer : Type 0 where
-  turnedDown : ℕ → Answer
-  taken : List ℕ → Answer
 
 -- Checking a table: 2 to 9; how many nodes, variables and clauses there are
 abbrev pub checkedFrom : Checked → Answer

@@ -7,10 +7,9 @@ ghost use lib.ListN.{length, take, drop};
 ghost use Rattle.planning.specs.Clause.{formula};
 ghost use Rattle.planning.specs.Variable.{variables as variablesOf};
 ghost use Rattle.planning.specs.Accepted.{Accepted as AcceptedTable};
-ghost use Rattle.sheet.specs.Sheet.{sheetSize, tableIn};
-ghost use Rattle.tree.specs.Visit.{Known};
+ghost use Rattle.sheet.specs.Sheet.{tableIn};
 ghost use Rattle.encoding.specs.Calls.{checkedFrom, checking, builtFrom, building, treeAfter, textFrom, writing, textAfter};
-ghost use Rattle.encoding.specs.Parts.{Measured, Prepared, Lined};
+ghost use Rattle.encoding.specs.Parts.{Lined};
 
 // The answers: the number of a question that is not met, or the values.
 pub enum Checked {
@@ -26,55 +25,6 @@ pub enum Built {
 pub enum Text {
     Refused(usize),
     Written(usize, usize),
-}
-
-// Questions 8 and 9: the number of the first that is not met, or 0, and how many nodes and variables there are.
-pub struct Measure {
-    pub question: usize,
-    pub nodes: usize,
-    pub variables: usize,
-}
-
-fn unmet(question: usize) -> Measure
-    ensures { λ r. ⌜ (r .question ≡ question) ⌝ }
-{
-    Measure {
-        question: question,
-        nodes: 0,
-        variables: 0,
-    }
-}
-
-fn measure_of(ws: &[u64]) -> Measure
-    requires { ⌜ Known (tableIn (now ws)) ⌝ }
-    ensures { λ r. ⌜ Measured (tableIn (now (ws .entry))) r ⌝ }
-{
-    let c = tree::count_all(ws);
-    if c.nodes > 1024 {
-        return unmet(8);
-    }
-    let v = c.variables + (c.slots + 1) * sheet::facts(ws);
-    if v > 8191 {
-        return unmet(9);
-    }
-    Measure {
-        question: 0,
-        nodes: c.nodes,
-        variables: v,
-    }
-}
-
-// Questions 2 to 9. The table's sheet is left in ws.
-fn prepare(file: &[u8], ws: &mut [u64]) -> Measure
-    requires { ⌜ sheetSize ≤ length (now ws) ⌝ }
-    ensures { λ r. ⌜ Prepared (now (file .entry)) (tableIn (now (ws .exit))) r ⌝ }
-{
-    let read = table::read(file);
-    if read.question != 0 {
-        return unmet(read.question);
-    }
-    sheet::fill(read.table, ws);
-    measure_of(ws)
 }
 
 // How many clauses there are.
@@ -94,7 +44,7 @@ pub fn check(file: &[u8]) -> Checked
     ensures { λ r. ⌜ checkedFrom r ≡ checking (now (file .entry)) ⌝ }
 {
     let mut ws = [0u64; 1479];
-    let p = prepare(file, &mut ws);
+    let p = questions::prepare(file, &mut ws);
     if p.question != 0 {
         return Checked::Refused(p.question);
     }
@@ -109,7 +59,7 @@ pub fn build(file: &[u8], tree: &mut [u64]) -> Built
         return Built::Refused(1);
     }
     let mut ws = [0u64; 1479];
-    let p = prepare(file, &mut ws);
+    let p = questions::prepare(file, &mut ws);
     if p.question != 0 {
         return Built::Refused(p.question);
     }
@@ -128,13 +78,11 @@ fn write_lines<'a, 'b>(
     requires { ⌜ AcceptedTable (tableIn (now ws)) × (variables ≡ variablesOf (tableIn (now ws))) × (5120 ≤ length (now tree)) ⌝ }
     ensures { λ r. ⌜ Lined (tableIn (now (ws .entry))) (now (tree .entry)) line (now (text .entry)) (now (text .exit)) r ⌝ }
 {
-    let mut words = [0u64; 5120];
-    let n = tree::build(ws, &mut words);
-    if !tree::is_same(tree, &words, n) {
+    let mut ix = [0u64; 24578];
+    let m = questions::place(ws, tree, &mut ix);
+    if m == 0 {
         return Text::Refused(10);
     }
-    let mut ix = [0u64; 24578];
-    let m = indexing::fill(ws, &tree[..n], &mut ix);
     let clauses = cursor::count_all(ws, &ix[..m]);
     if line > clauses {
         return Text::Refused(11);
@@ -154,7 +102,7 @@ pub fn write_text(file: &[u8], tree: &[u64], line: usize, text: &mut [u8]) -> Te
         return Text::Refused(1);
     }
     let mut ws = [0u64; 1479];
-    let p = prepare(file, &mut ws);
+    let p = questions::prepare(file, &mut ws);
     if p.question != 0 {
         return Text::Refused(p.question);
     }

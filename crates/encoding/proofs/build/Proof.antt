@@ -3,10 +3,11 @@ use Rattle.encoding.proofs.build.Statement.{statement}
 use Rattle.encoding.proofs.build.Tie as tie
 use Rattle.encoding.proofs.build.Reads as reads
 use Rattle.encoding.proofs.build.Lts as lts
-use Rattle.encoding.proofs.prepare.Reads as prepare-reads
+use Rattle.questions.proofs.prepare.Reads as prepare-reads
 use Rattle.tree.proofs.build.Reads as build-reads
 use Rattle.encoding.proofs.Answers.{build-short, build-unmet, build-met}
-use Rattle.encoding.proofs.Compared.{known-of}
+use Rattle.questions.proofs.Compared.{known-of}
+use Rattle.encoding.proofs.Counted.{}
 use lib.Dec.{lit≤}
 
 -- src/lib.rt:109:9

@@ -4,7 +4,7 @@ use Rattle.encoding.proofs.check.Tie as tie
 use Rattle.encoding.proofs.check.Reads as reads
 use Rattle.encoding.proofs.check.Lts as lts
 use Rattle.encoding.proofs.count_clauses.Reads as count-clauses-reads
-use Rattle.encoding.proofs.prepare.Reads as prepare-reads
+use Rattle.questions.proofs.prepare.Reads as prepare-reads
 use Rattle.encoding.proofs.Answers.{check-unmet, check-met}
 use lib.Dec.{lit≤}
 

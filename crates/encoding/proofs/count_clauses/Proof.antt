@@ -8,7 +8,8 @@ use Rattle.indexing.proofs.fill.Reads as fill-reads
 use Rattle.tree.proofs.build.Reads as build-reads
 use native.Mathlib.Omega.{arith}
 use Rattle.sheet.specs.Sheet.{tableIn}
-use Rattle.encoding.proofs.Compared.{known-of, tree-front, index-front, clauses-are}
+use Rattle.questions.proofs.Compared.{known-of, tree-front}
+use Rattle.encoding.proofs.Counted.{index-front, clauses-are}
 use lib.Dec.{lit≤}
 use Rattle.lists.proofs.Written.{wrote-count, wrote-room}
 

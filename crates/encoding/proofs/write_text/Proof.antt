@@ -3,7 +3,7 @@ use Rattle.encoding.proofs.write_text.Statement.{statement}
 use Rattle.encoding.proofs.write_text.Tie as tie
 use Rattle.encoding.proofs.write_text.Reads as reads
 use Rattle.encoding.proofs.write_text.Lts as lts
-use Rattle.encoding.proofs.prepare.Reads as prepare-reads
+use Rattle.questions.proofs.prepare.Reads as prepare-reads
 use Rattle.encoding.proofs.write_lines.Reads as write-lines-reads
 use Rattle.encoding.proofs.Answers.{text-short, short-tree, short-text, text-unmet, text-met}
 use lib.Dec.{lit≤}
@@ -34,7 +34,7 @@ slice-aggregate-write-lines c = search needs
 
 -- src/lib.rt:171:5
 write-lines-requires : tie.Need-write-lines-requires
-write-lines-requires c κs = (c .before .before .before .before .before .prepare .ensures .accepted (c .before .before .if3 .left), (c .before .before .before .before .before .prepare .ensures .measured (c .before .before .if3 .left)) .variables (c .before .before .if3 .left), c .before .before .before .before .before .before .before .before .if1 .left)
+write-lines-requires c κs = (c .before .before .before .before .before .prepare .ensures .accepted (c .before .before .if3 .left), c .before .before .before .before .before .prepare .ensures .variables (c .before .before .if3 .left), c .before .before .before .before .before .before .before .before .if1 .left)
 
 -- src/lib.rt:157:1
 same-length : tie.Need-same-length

@@ -13,23 +13,21 @@ use Rattle.lists.specs.Written.{Wrote}
 use Rattle.lists.proofs.Bool.{eqb-sound}
 use Rattle.lists.proofs.Member.{all-out}
 use Rattle.lists.proofs.Number.{upTo-in}
-use Rattle.lists.proofs.Written.{wrote-front, wrote-whole}
+use Rattle.lists.proofs.Written.{wrote-front, wrote-whole, wrote-room}
 use Rattle.bitset.specs.Set.{setOf}
 use Rattle.planning.specs.Table.{Table}
 use Rattle.planning.specs.Place.{rootPlace, nodes}
 use Rattle.planning.specs.Record.{Record, records}
-use Rattle.planning.specs.Clause.{formula}
 use Rattle.planning.specs.Accepted.{Accepted}
 use Rattle.planning.proofs.Record.{records-count}
-use Rattle.places.specs.Total.{clauseCount}
 use Rattle.places.specs.Lookup.{noRecord}
-use Rattle.places.proofs.Total.{formula-count}
-use Rattle.index.specs.Index.{source, indexOf}
+use Rattle.index.specs.Index.{indexOf}
 use Rattle.index.proofs.Blocks.{length-fives}
 use Rattle.index.proofs.Known.{set-length}
 use Rattle.shape.specs.Shape.{Indexed}
 use Rattle.tree.specs.Words.{recordWords, treeWords, met10}
 use Rattle.tree.specs.Visit.{Known}
+use Rattle.questions.specs.Parts.{Placed}
 
 -- How long it is -------------------------------------------------------------------------------------------------------------
 five-words : (r : Record) → length (recordWords r) ≡ 5
@@ -48,13 +46,6 @@ module _ (T : Table) (a : Accepted T) {o o′ : List ℕ} {n : ℕ} (w : Wrote o
   -- the words written
   pub tree-front : take n o′ ≡ treeWords (records T)
   tree-front = wrote-front w
-
-module _ (T : Table) (a : Accepted T) {o o′ : List ℕ} {m : ℕ} (w : Wrote o 0 (indexOf T) o′ m) where
-  pub index-front : Indexed T (take m o′)
-  index-front = record { accepted = a; index = wrote-front w }
-
-pub clauses-are : (T : Table) {k : ℕ} → k ≡ clauseCount (source T) → k ≡ length (formula T)
-clauses-are T e = e ∙ sym (formula-count T)
 
 -- Question 10 ----------------------------------------------------------------------------------------------------------------
 all-below : (p q : ℕ → Bool) (k n : ℕ) → ((i : ℕ) → k ≤ i → i < k + n → p i ≡ q i) → all p (from k n) ≡ all q (from k n)
@@ -85,3 +76,14 @@ module _ (T : Table) (tree : List ℕ) {o o′ : List ℕ} {n : ℕ} (w : Wrote 
       let k : i < n = omega (arith, length-take-le n tree h) in
       getD-take n tree i 0 k
       ∙ eqb-sound (getD tree i 0) (getD (treeWords (records T)) i 0) (all-out (λ i. eqb (getD tree i 0) (getD (treeWords (records T)) i 0)) (upTo (length (treeWords (records T)))) t i (upTo-in i (length (treeWords (records T))) (omega arith))))
+
+  pub not-placed : met10 T tree ≡ false → {ix : List ℕ} → Placed T tree ix 0
+  not-placed e {ix} = record { unmet = λ z. e; met = λ u. absurd (u refl); index = λ u. absurd (u refl); room = omega arith }
+
+pub is-placed : (T : Table) → Accepted T → (tree : List ℕ) → met10 T tree ≡ true → {ix ix′ : List ℕ} {r : ℕ} → 24578 ≤ length ix → Wrote ix 0 (indexOf T) ix′ r → Placed T tree ix′ r
+is-placed T a tree e {ix} {ix′} {r} h w = record {
+  unmet = λ z. absurd (omega (arith, w .end));
+  met = λ u. e;
+  index = λ u. record { accepted = a; index = wrote-front w };
+  room = wrote-room w;
+}

@@ -1,14 +1,14 @@
 use borrow.Author.Needs.{needs}
-use Rattle.encoding.proofs.measure_of.Statement.{statement}
-use Rattle.encoding.proofs.measure_of.Tie as tie
-use Rattle.encoding.proofs.measure_of.Reads as reads
-use Rattle.encoding.proofs.measure_of.Lts as lts
-use Rattle.encoding.proofs.unmet.Reads as unmet-reads
+use Rattle.questions.proofs.measure_of.Statement.{statement}
+use Rattle.questions.proofs.measure_of.Tie as tie
+use Rattle.questions.proofs.measure_of.Reads as reads
+use Rattle.questions.proofs.measure_of.Lts as lts
+use Rattle.questions.proofs.unmet.Reads as unmet-reads
 use Rattle.sheet.proofs.facts.Reads as facts-reads
 use Rattle.tree.proofs.count_all.Reads as count-all-reads
 use native.Mathlib.Omega.{arith}
 use Rattle.sheet.specs.Sheet.{tableIn}
-use Rattle.encoding.proofs.Questions.{too-many-nodes, too-many-variables, all-met, facts-room}
+use Rattle.questions.proofs.Preparing.{too-many-nodes, too-many-variables, all-met, facts-room}
 
 -- src/lib.rt:52:9
 count-all-requires : tie.Need-count-all-requires

@@ -21,9 +21,10 @@ use Rattle.table.specs.declared.Outcome.{Outcome}
 use Rattle.table.proofs.Promised.{promises}
 use Rattle.tree.specs.Visit.{Known, Counted}
 use Rattle.tree.specs.declared.Count.{Count}
-use Rattle.encoding.specs.Calls.{met8, met9, Verdict, unmet, accepted, ifMet, afterReading, accepting}
-use Rattle.encoding.specs.Parts.{Measured, Prepared}
-use Rattle.encoding.specs.declared.Measure.{Measure}
+use Rattle.questions.specs.Questions.{met8, met9, Verdict, unmet, accepted, ifMet, afterReading, accepting, namesAfter, namesOf}
+use Rattle.questions.specs.Parts.{Measured, IsPrepared}
+use Rattle.questions.specs.declared.Measure.{Measure}
+use Rattle.questions.specs.declared.Prepared.{Prepared}
 
 pub leb-no : (m n : ℕ) → n < m → leb m n ≡ false
 leb-no m n h = go (bool-cases (leb m n))
@@ -77,11 +78,14 @@ by-number zero T u = absurd (u refl)
 by-number (suc n) T u = refl
 
 module _ (file : List ℕ) {o : Outcome} (reads : Reads file o) where
-  pub not-read : (o .question ≡ 0 → ⊥) → (T : Table) {r : Measure} → r .question ≡ o .question → Prepared file T r
+  pub not-read : (o .question ≡ 0 → ⊥) → (T : Table) {r : Prepared} → r .question ≡ o .question → IsPrepared file T r
   not-read u T {r} e = record {
     verdict = rw e (by-number (o .question) T u ∙ sym (ap afterReading (promises .turned-down file o reads u)));
     accepted = λ z. absurd (u (sym e ∙ z));
-    measured = λ z. absurd (u (sym e ∙ z));
+    nodes = λ z. absurd (u (sym e ∙ z));
+    variables = λ z. absurd (u (sym e ∙ z));
+    table = λ z. absurd (u (sym e ∙ z));
+    names = λ z. absurd (u (sym e ∙ z));
   }
 
   module _ (met : o .question ≡ 0) where
@@ -94,11 +98,15 @@ module _ (file : List ℕ) {o : Outcome} (reads : Reads file o) where
     pub known : Known (tableFrom (o .table))
     known = record { sound = sound; limits = limits }
 
-    pub is-prepared : {T : Table} → T ≡ tableFrom (o .table) → {r : Measure} → Measured T r → Prepared file T r
-    is-prepared {T} e {r} m = record {
-      verdict = ap (λ (n : ℕ). ifMet n T) (m .question) ∙ rw e (sym (ap afterReading (promises .read-as file o reads met)));
+    pub is-prepared : {T : Table} → T ≡ tableFrom (o .table) → {m : Measure} → Measured T m
+        → IsPrepared file T (record { question = m .question; nodes = m .nodes; variables = m .variables; table = o .table })
+    is-prepared {T} e {m} h = record {
+      verdict = ap (λ (n : ℕ). ifMet n T) (h .question) ∙ rw e (sym (ap afterReading (promises .read-as file o reads met)));
       accepted = λ z. few-enough z;
-      measured = λ z. m;
+      nodes = h .nodes;
+      variables = h .variables;
+      table = λ z. e;
+      names = λ z. sym (ap namesAfter (promises .read-as file o reads met));
     }
       where
         both : (a b : Bool) → 0 ≡ firstUnmet ((8, a) ∷ (9, b) ∷ []) → (a ≡ true) × (b ≡ true)
@@ -106,9 +114,9 @@ module _ (file : List ℕ) {o : Outcome} (reads : Reads file o) where
         both true false q = absurd (omega arith)
         both false b q = absurd (omega arith)
 
-        few-enough : r .question ≡ 0 → Accepted T
+        few-enough : m .question ≡ 0 → Accepted T
         few-enough z =
-            let k = both (met8 T) (met9 T) (sym z ∙ m .question) in
+            let k = both (met8 T) (met9 T) (sym z ∙ h .question) in
             record {
               sound = rw e sound;
               limits = rw e limits;

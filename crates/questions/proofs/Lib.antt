@@ -1,0 +1,4 @@
+-- Laws, by topic.
+pub mod Preparing
+pub mod Compared
+pub mod Asked

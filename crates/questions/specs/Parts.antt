@@ -1,0 +1,40 @@
+-- Inside the calls: what the functions of this crate say. Nothing to believe.
+-- Assumes nothing.
+use mathlib.Core.Path.{_≡_}
+use mathlib.Core.Bool.{true, false}
+use mathlib.Core.List.{List, [], _∷_}
+use Prim.Native.Nat.{ℕ, _≤_}
+use lib.ListN.{length, take}
+use Rattle.lists.specs.Question.{firstUnmet}
+use Rattle.planning.specs.Table.{Table}
+use Rattle.planning.specs.Place.{rootPlace, nodes}
+use Rattle.planning.specs.Variable.{variables}
+use Rattle.planning.specs.Accepted.{Accepted}
+use Rattle.table.specs.Layout.{tableFrom, namePartsFrom}
+use Rattle.tree.specs.Words.{met10}
+use Rattle.shape.specs.Shape.{Indexed}
+use Rattle.questions.specs.Questions.{met8, met9, ifMet, accepting, namesOf}
+use Rattle.questions.specs.declared.Measure.{Measure}
+use Rattle.questions.specs.declared.Prepared.{Prepared}
+
+-- questions 8 and 9 were put
+pub record Measured (T : Table) (r : Measure) : Type 0 where
+  pub question : r .question ≡ firstUnmet ((8, met8 T) ∷ (9, met9 T) ∷ [])
+  pub nodes : r .question ≡ 0 → r .nodes ≡ nodes (rootPlace T)
+  pub variables : r .question ≡ 0 → r .variables ≡ variables T
+
+-- questions 2 to 9 were put; where all are met, T is the table
+pub record IsPrepared (file : List ℕ) (T : Table) (r : Prepared) : Type 0 where
+  pub verdict : ifMet (r .question) T ≡ accepting file
+  pub accepted : r .question ≡ 0 → Accepted T
+  pub nodes : r .question ≡ 0 → r .nodes ≡ nodes (rootPlace T)
+  pub variables : r .question ≡ 0 → r .variables ≡ variables T
+  pub table : r .question ≡ 0 → T ≡ tableFrom (r .table)
+  pub names : r .question ≡ 0 → namePartsFrom (r .table) ≡ namesOf file
+
+-- question 10 was put; where it is met, the first r words of ix are the table's index
+pub record Placed (T : Table) (tree ix : List ℕ) (r : ℕ) : Type 0 where
+  pub unmet : r ≡ 0 → met10 T tree ≡ false
+  pub met : (r ≡ 0 → ⊥) → met10 T tree ≡ true
+  pub index : (r ≡ 0 → ⊥) → Indexed T (take r ix)
+  pub room : r ≤ length ix

@@ -1,0 +1,69 @@
+-- Which table is accepted, and what comes of the questions that a call puts.
+-- Assumes nothing.
+use mathlib.Core.Bool.{Bool, cond}
+use mathlib.Core.List.{List, [], _∷_}
+use Prim.Native.Nat.{ℕ, zero, suc}
+use lib.Dec.{leb}
+use lib.ListN.{length}
+use Rattle.lists.specs.Question.{firstUnmet}
+use Rattle.planning.specs.Table.{Table}
+use Rattle.planning.specs.Place.{rootPlace, nodes}
+use Rattle.planning.specs.Variable.{variables}
+use Rattle.table.specs.Reading.{NameParts, Reading, refused, passed, reading}
+
+-- 1. "Are lent buffers long enough: 1,024 records for the tree ..?" A record has five words
+abbrev pub enoughTree : List ℕ → Bool
+enoughTree tree = leb 5120 (length tree)
+
+-- 8. "Has the tree at most 1,024 nodes?"
+abbrev pub met8 : Table → Bool
+met8 T = leb (nodes (rootPlace T)) 1024
+
+-- 9. "Are there at most 8,191 variables?" (10 stands in crate `tree`, beside the form of the records.)
+abbrev pub met9 : Table → Bool
+met9 T = leb (variables T) 8191
+
+-- "A table is accepted if 2 to 9 are met": the number of the first question that a file does not meet, or its table
+pub data Verdict : Type 0 where
+  unmet : ℕ → Verdict
+  accepted : Table → Verdict
+
+-- the number is 0 where all are met
+abbrev pub ifMet : ℕ → Table → Verdict
+ifMet zero T = accepted T
+ifMet (suc n) T = unmet (suc n)
+
+abbrev pub afterReading : Reading → Verdict
+afterReading (refused n) = unmet n
+afterReading (passed T names) = ifMet (firstUnmet ((8, met8 T) ∷ (9, met9 T) ∷ [])) T
+
+abbrev pub accepting : List ℕ → Verdict
+accepting file = afterReading (reading file)
+
+-- "Each name shown is the part of the table file where it was declared": these parts, of a file that was read
+abbrev pub namesAfter : Reading → NameParts
+namesAfter (refused n) = record { facts = []; steps = []; jobs = [] }
+namesAfter (passed T names) = names
+
+abbrev pub namesOf : List ℕ → NameParts
+namesOf file = namesAfter (reading file)
+
+-- Calls ------------------------------------------------------------------------------------------------------------------------
+-- "Each call puts those that concern what it was lent", in sequence: 1, where there is a buffer, then 2 to 9, then those behind 9. What
+-- comes of it: by the number of the first question that is not met, or by the table
+module _ {A : Type 0} where
+  abbrev pub byNumber : ℕ → (refuse : ℕ → A) → A → A
+  byNumber zero refuse a = a
+  byNumber (suc n) refuse a = refuse (suc n)
+
+  abbrev pub byVerdict : Verdict → (behind9 : Table → List (ℕ × Bool)) → (refuse : ℕ → A) → (succeed : Table → A) → A
+  byVerdict (unmet n) behind9 refuse succeed = refuse n
+  byVerdict (accepted T) behind9 refuse succeed = byNumber (firstUnmet (behind9 T)) refuse (succeed T)
+
+  abbrev pub asked : (enough : Bool) → (file : List ℕ) → (behind9 : Table → List (ℕ × Bool)) → (refuse : ℕ → A) → (succeed : Table → A) → A
+  asked enough file behind9 refuse succeed = cond enough (byVerdict (accepting file) behind9 refuse succeed) (refuse 1)
+
+-- What a call hands back: "that number alone", or its values in order
+pub data Answer : Type 0 where
+  turnedDown : ℕ → Answer
+  taken : List ℕ → Answer
