@@ -1,0 +1,2 @@
+-- Inside the answer's calls: clauses under values.
+pub mod Clauses

@@ -1,0 +1,85 @@
+// Question 15: is every clause satisfied by these values? `ws` is the table's sheet and `ix` its index. Variable v's value stands at
+// place v - 1: 1 if it is true.
+ghost use mathlib.Core.Path.{_≡_};
+ghost use mathlib.Core.List.{map};
+ghost use Prim.Native.Nat.{_≤_};
+ghost use lib.Dec.{eqb};
+ghost use lib.ListN.{length};
+ghost use Rattle.planning.specs.Clause.{formula};
+ghost use Rattle.planning.specs.Model.{value, litTrue, clauseTrue, satisfies};
+ghost use Rattle.writer.specs.Literal.{litIn, clauseIn};
+ghost use Rattle.sheet.specs.Sheet.{tableIn};
+ghost use Rattle.shape.specs.Shape.{Indexed};
+ghost use Rattle.cursor.specs.Cursor.{Holds};
+ghost use Rattle.model.specs.Clauses.{truthsIn, clauseAt};
+use cursor::Cursor;
+use cursor::Next;
+
+// Is variable v true?
+fn is_on(values: &[u8], v: usize) -> bool
+    ensures { λ r. ⌜ r ≡ value (truthsIn (now (values .entry))) v ⌝ }
+{
+    if v == 0 {
+        return false;
+    }
+    if v > values.len() {
+        return false;
+    }
+    1 == values[v - 1]
+}
+
+// Is the literal true that a number stands for?
+fn is_true(values: &[u8], code: u64) -> bool
+    ensures { λ r. ⌜ r ≡ litTrue (value (truthsIn (now (values .entry)))) (litIn code) ⌝ }
+{
+    let on = is_on(values, (code / 2) as usize);
+    if code % 2 == 0 {
+        return on;
+    }
+    !on
+}
+
+// Is one of the clause's literals true?
+fn has_true<'a>(values: &'a [u8], lits: &'a [u64]) -> bool
+    ensures { λ r. ⌜ r ≡ clauseTrue (value (truthsIn (now (values .entry)))) (clauseIn (now (lits .entry))) ⌝ }
+{
+    let mut i: usize = 0;
+    while i < lits.len() {
+        if is_true(values, lits[i]) {
+            return true;
+        }
+        i += 1;
+    }
+    false
+}
+
+// Is the clause at c satisfied?
+fn is_satisfied<'a>(ws: &'a [u64], ix: &'a [u64], values: &'a [u8], c: Cursor) -> bool
+    requires { ⌜ Indexed (tableIn (now ws)) (now ix) × Holds (tableIn (now ws)) c ⌝ }
+    ensures { λ r. ⌜ r ≡ clauseTrue (value (truthsIn (now (values .entry)))) (clauseAt (tableIn (now (ws .entry))) c) ⌝ }
+{
+    let mut lits = [0u64; 136];
+    let k = clause::literals(ws, ix, &mut lits, c.rule, c.node, c.group, c.x, c.y, c.i);
+    has_true(values, &lits[..k])
+}
+
+// Is every clause?
+pub fn is_model<'a>(ws: &'a [u64], ix: &'a [u64], values: &'a [u8]) -> bool
+    requires { ⌜ Indexed (tableIn (now ws)) (now ix) ⌝ }
+    ensures { λ r. ⌜ r ≡ satisfies (value (truthsIn (now (values .entry)))) (formula (tableIn (now (ws .entry)))) ⌝ }
+{
+    let mut c = cursor::seek(ws, ix, 0);
+    loop {
+        match c.next(ws, ix) {
+            Next::Clause(p, d) => {
+                if !is_satisfied(ws, ix, values, p) {
+                    return false;
+                }
+                c = d;
+            }
+            Next::End => {
+                return true;
+            }
+        }
+    }
+}
