@@ -81,11 +81,10 @@ module _ (file tree : List ℕ) (h : 5120 ≤ length tree) {T : Table} {p : Prep
 
   pub build-met : {tree′ : List ℕ} {r : ℕ} → p .question ≡ 0 → Wrote tree 0 (treeWords (records T)) tree′ r
       → (taken (p .nodes ∷ []) ≡ building file tree) × (tree′ ≡ treeAfter file tree)
-  build-met {tree′} {r} z w =
-      (
-        rw (prepared .nodes z) (sym (asked-met file (λ T. []) turnedDown (λ T. taken (nodes (rootPlace T) ∷ [])) prepared tree-enough z)),
-        wrote-whole w ∙ sym (asked-met file (λ T. []) (λ n. tree) (λ T. treeWords (records T) ++ drop (length (treeWords (records T))) tree) prepared tree-enough z),
-      )
+  build-met {tree′} {r} z w = (
+    rw (prepared .nodes z) (sym (asked-met file (λ T. []) turnedDown (λ T. taken (nodes (rootPlace T) ∷ [])) prepared tree-enough z)),
+    wrote-whole w ∙ sym (asked-met file (λ T. []) (λ n. tree) (λ T. treeWords (records T) ++ drop (length (treeWords (records T))) tree) prepared tree-enough z),
+  )
 
 module _ (file tree : List ℕ) (line : ℕ) (text : List ℕ) where
   pub text-short : (enoughTree tree && enoughText text) ≡ false → (turnedDown 1 ≡ writing file tree line text) × (text ≡ textAfter file tree line text)

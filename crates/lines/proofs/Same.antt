@@ -12,7 +12,7 @@ use lib.Seq.{slice, slice-empty, slice-cons, length-slice}
 use borrow.Author.Tests.{eq-eqb, ne-eqb}
 use Rattle.lines.specs.Bytes.{sameBytes}
 
-same-length : (l m : List ℕ) → (length l ≡ length m → ⊥) → sameBytes l m ≡ false
+pub same-length : (l m : List ℕ) → (length l ≡ length m → ⊥) → sameBytes l m ≡ false
 unfolding sameBytes
 same-length [] [] n = absurd (n refl)
 same-length [] (b ∷ m) n = refl

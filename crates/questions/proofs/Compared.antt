@@ -67,18 +67,17 @@ module _ (T : Table) (tree : List ℕ) {o o′ : List ℕ} {n : ℕ} (w : Wrote 
       ∙ all-below (λ i. eqb (getD tree i 0) (getD o′ i 0)) (λ i. eqb (getD tree i 0) (getD (treeWords (records T)) i 0)) 0 (length (treeWords (records T)))
       (λ i h l. ap (eqb (getD tree i 0)) (ap (λ (l : List ℕ). getD l i 0) (wrote-whole w) ∙ List·getD-append (treeWords (records T)) (drop (length (treeWords (records T))) o) 0 i (omega arith)))
 
-  -- where it is met the lent tree begins with the table's records
-  pub lent-front : met10 T tree ≡ true → n ≤ length tree → take n tree ≡ treeWords (records T)
-  lent-front t h =
-      let z : n ≡ length (treeWords (records T)) = omega (arith, w .end) in
-      same-by-place (take n tree) (treeWords (records T)) (length-take-le n tree h ∙ z)
-      (λ i l.
-      let k : i < n = omega (arith, length-take-le n tree h) in
-      getD-take n tree i 0 k
-      ∙ eqb-sound (getD tree i 0) (getD (treeWords (records T)) i 0) (all-out (λ i. eqb (getD tree i 0) (getD (treeWords (records T)) i 0)) (upTo (length (treeWords (records T)))) t i (upTo-in i (length (treeWords (records T))) (omega arith))))
+-- where it is met the lent tree begins with the table's records
+pub lent-front : (T : Table) (tree : List ℕ) {n : ℕ} → n ≡ length (treeWords (records T)) → met10 T tree ≡ true → n ≤ length tree → take n tree ≡ treeWords (records T)
+lent-front T tree {n} z t h =
+    same-by-place (take n tree) (treeWords (records T)) (length-take-le n tree h ∙ z)
+    (λ i l.
+    let k : i < n = omega (arith, length-take-le n tree h) in
+    getD-take n tree i 0 k
+    ∙ eqb-sound (getD tree i 0) (getD (treeWords (records T)) i 0) (all-out (λ i. eqb (getD tree i 0) (getD (treeWords (records T)) i 0)) (upTo (length (treeWords (records T)))) t i (upTo-in i (length (treeWords (records T))) (omega arith))))
 
-  pub not-placed : met10 T tree ≡ false → {ix : List ℕ} → Placed T tree ix 0
-  not-placed e {ix} = record { unmet = λ z. e; met = λ u. absurd (u refl); index = λ u. absurd (u refl); room = omega arith }
+pub not-placed : (T : Table) (tree : List ℕ) → met10 T tree ≡ false → {ix : List ℕ} → Placed T tree ix 0
+not-placed T tree e {ix} = record { unmet = λ z. e; met = λ u. absurd (u refl); index = λ u. absurd (u refl); room = omega arith }
 
 pub is-placed : (T : Table) → Accepted T → (tree : List ℕ) → met10 T tree ≡ true → {ix ix′ : List ℕ} {r : ℕ} → 24578 ≤ length ix → Wrote ix 0 (indexOf T) ix′ r → Placed T tree ix′ r
 is-placed T a tree e {ix} {ix′} {r} h w = record {

@@ -10,12 +10,26 @@ ghost use Rattle.planning.specs.Text.{decimal, litText, clauseLine, headerLine}
 ghost use Rattle.writer.specs.Literal.{litIn, clauseIn};
 
 // One byte.
-fn put_byte(out: &mut [u8], at: usize, b: u8) -> usize
+pub fn put_byte(out: &mut [u8], at: usize, b: u8) -> usize
     requires { ⌜ at < length (now out) ⌝ }
     ensures { λ r. ⌜ Wrote (now (out .entry)) at (b ∷ []) (now (out .exit)) r ⌝ }
 {
     out[at] = b;
     at + 1
+}
+
+// Some bytes.
+pub fn put_bytes<'a, 'b>(out: &'a mut [u8], at: usize, bytes: &'b [u8]) -> usize
+    requires { ⌜ at + length (now bytes) ≤ length (now out) ⌝ }
+    ensures { λ r. ⌜ Wrote (now (out .entry)) at (now (bytes .entry)) (now (out .exit)) r ⌝ }
+{
+    let mut a = at;
+    let mut i: usize = 0;
+    while i < bytes.len() {
+        a = put_byte(out, a, bytes[i]);
+        i += 1;
+    }
+    a
 }
 
 // A number's digits.

@@ -33,7 +33,7 @@ is-same-requires c κs = ((omega (arith, tree-end (tableIn (c .before .before .b
 
 -- src/lib.rt:88:9
 returns : tie.Need-returns
-returns c = not-placed (tableIn (c .before .before .before .before .before .before .before .before .before .args .ws .now)) (c .before .before .before .before .before .before .before .before .before .args .tree .now) (c .before .before .before .before .build .ensures) (said-no (compared (tableIn (c .before .before .before .before .before .before .before .before .before .args .ws .now)) (c .before .before .before .before .before .before .before .before .before .args .tree .now) (c .before .before .before .before .build .ensures) (c .before .is-same .ensures)) (c .if1 .taken))
+returns c = not-placed (tableIn (c .before .before .before .before .before .before .before .before .before .args .ws .now)) (c .before .before .before .before .before .before .before .before .before .args .tree .now) (said-no (compared (tableIn (c .before .before .before .before .before .before .before .before .before .args .ws .now)) (c .before .before .before .before .before .before .before .before .before .args .tree .now) (c .before .before .before .before .build .ensures) (c .before .is-same .ensures)) (c .if1 .taken))
 
 -- src/lib.rt:90:24
 slice-aggregate-fill : tie.Need-slice-aggregate-fill
@@ -41,7 +41,7 @@ slice-aggregate-fill c = sym (length-take-le (c .before .before .before .before 
 
 -- src/lib.rt:90:5
 fill-requires : tie.Need-fill-requires
-fill-requires c κs = (record { accepted = c .before .before .before .before .before .before .before .before .before .before .before .pre .0; tree = lent-front (tableIn (c .before .before .before .before .before .before .before .before .before .before .before .args .ws .now)) (c .before .before .before .before .before .before .before .before .before .before .before .args .tree .now) (c .before .before .before .before .before .before .build .ensures) (said-yes (compared (tableIn (c .before .before .before .before .before .before .before .before .before .before .before .args .ws .now)) (c .before .before .before .before .before .before .before .before .before .before .before .args .tree .now) (c .before .before .before .before .before .before .build .ensures) (c .before .before .before .is-same .ensures)) (c .before .before .if1 .left)) (omega (arith, tree-end (tableIn (c .before .before .before .before .before .before .before .before .before .before .before .args .ws .now)) (c .before .before .before .before .before .before .before .before .before .before .before .pre .0) (c .before .before .before .before .before .before .build .ensures) .1, c .before .before .before .before .before .before .before .before .before .before .before .pre .1)) }, c .before .before .before .before .before .before .before .before .before .before .before .pre .2)
+fill-requires c κs = (record { accepted = c .before .before .before .before .before .before .before .before .before .before .before .pre .0; tree = lent-front (tableIn (c .before .before .before .before .before .before .before .before .before .before .before .args .ws .now)) (c .before .before .before .before .before .before .before .before .before .before .before .args .tree .now) (tree-end (tableIn (c .before .before .before .before .before .before .before .before .before .before .before .args .ws .now)) (c .before .before .before .before .before .before .before .before .before .before .before .pre .0) (c .before .before .before .before .before .before .build .ensures) .0) (said-yes (compared (tableIn (c .before .before .before .before .before .before .before .before .before .before .before .args .ws .now)) (c .before .before .before .before .before .before .before .before .before .before .before .args .tree .now) (c .before .before .before .before .before .before .build .ensures) (c .before .before .before .is-same .ensures)) (c .before .before .if1 .left)) (omega (arith, tree-end (tableIn (c .before .before .before .before .before .before .before .before .before .before .before .args .ws .now)) (c .before .before .before .before .before .before .before .before .before .before .before .pre .0) (c .before .before .before .before .before .before .build .ensures) .1, c .before .before .before .before .before .before .before .before .before .before .before .pre .1)) }, c .before .before .before .before .before .before .before .before .before .before .before .pre .2)
 
 -- src/lib.rt:81:1
 same-length : tie.Need-same-length

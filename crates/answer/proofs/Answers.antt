@@ -1,0 +1,88 @@
+-- What each call answers and leaves, question by question.
+-- By the definition of the calls.
+use mathlib.Core.Path.{_≡_, sym, _∙_}
+use mathlib.Core.Bool.{Bool, true, false, _&&_}
+use mathlib.Core.List.{List, [], _∷_, _++_}
+use Prim.Native.Nat.{ℕ, _≤_, _<_}
+use lib.ListN.{length, drop}
+use Rattle.lists.proofs.Bool.{leb-in, and-off}
+use Rattle.planning.specs.Table.{Table}
+use Rattle.planning.specs.Variable.{variables}
+use Rattle.solver.specs.Questions.{bits}
+use Rattle.questions.specs.Questions.{enoughTree, turnedDown, taken}
+use Rattle.questions.specs.Parts.{IsPrepared}
+use Rattle.questions.specs.declared.Prepared.{Prepared}
+use Rattle.questions.proofs.Preparing.{leb-no}
+use Rattle.questions.proofs.Asked.{asked-short, asked-unmet, asked-met}
+use Rattle.answer.specs.Calls.{enoughValues, enoughListing, takenFrom, answered, questionsTaking, taking, valuesAfter, listedFrom, questionsListing, shown, showing, textAfter}
+use Rattle.answer.specs.Parts.{Took, Showed}
+use Rattle.answer.specs.declared.Taken.{Taken}
+use Rattle.answer.specs.declared.Listed.{Listed}
+
+-- Taking an answer -----------------------------------------------------------------------------------------------------------------
+module _ (file tree answer values : List ℕ) where
+  pub take-short : (enoughTree tree && enoughValues values) ≡ false → (turnedDown 1 ≡ taking file tree answer values) × (values ≡ valuesAfter file tree answer values)
+  take-short e = (
+    sym (asked-short file (questionsTaking tree answer) turnedDown (λ T. taken (variables T ∷ [])) e),
+    sym (asked-short file (questionsTaking tree answer) (λ n. values) (λ T. bits (answered T answer) ++ drop (variables T) values) e),
+  )
+
+  pub take-short-tree : length tree < 5120 → (enoughTree tree && enoughValues values) ≡ false
+  take-short-tree h = rw (leb-no 5120 (length tree) h)
+
+  pub take-short-values : length values < 8191 → (enoughTree tree && enoughValues values) ≡ false
+  take-short-values h = rw (leb-no 8191 (length values) h) (and-off (enoughTree tree))
+
+  module _ (h : 5120 ≤ length tree) (k : 8191 ≤ length values) {T : Table} {p : Prepared} (prepared : IsPrepared file T p) where
+    enough : (enoughTree tree && enoughValues values) ≡ true
+    enough = rw (leb-in 5120 (length tree) h, leb-in 8191 (length values) k)
+
+    pub take-unmet : (p .question ≡ 0 → ⊥) → (turnedDown (p .question) ≡ taking file tree answer values) × (values ≡ valuesAfter file tree answer values)
+    take-unmet u = (
+      sym (asked-unmet file (questionsTaking tree answer) turnedDown (λ T. taken (variables T ∷ [])) prepared enough u),
+      sym (asked-unmet file (questionsTaking tree answer) (λ n. values) (λ T. bits (answered T answer) ++ drop (variables T) values) prepared enough u),
+    )
+
+    pub take-met : {values′ : List ℕ} {r : Taken} → p .question ≡ 0 → Took T tree answer values values′ r
+        → (takenFrom r ≡ taking file tree answer values) × (values′ ≡ valuesAfter file tree answer values)
+    take-met z t = (
+      t .handed-back ∙ sym (asked-met file (questionsTaking tree answer) turnedDown (λ T. taken (variables T ∷ [])) prepared enough z),
+      t .left ∙ sym (asked-met file (questionsTaking tree answer) (λ n. values) (λ T. bits (answered T answer) ++ drop (variables T) values) prepared enough z),
+    )
+
+-- Listing a procedure --------------------------------------------------------------------------------------------------------------
+module _ (file tree values text : List ℕ) where
+  abbrev pub lentEnough : Bool
+  lentEnough = enoughTree tree && (enoughValues values && enoughListing text)
+
+  pub list-short : lentEnough ≡ false → (turnedDown 1 ≡ showing file tree values text) × (text ≡ textAfter file tree values text)
+  list-short e = (
+    sym (asked-short file (questionsListing tree values) turnedDown (λ T. taken (length (shown file values T) ∷ [])) e),
+    sym (asked-short file (questionsListing tree values) (λ n. text) (λ T. shown file values T ++ drop (length (shown file values T)) text) e),
+  )
+
+  pub list-short-tree : length tree < 5120 → lentEnough ≡ false
+  list-short-tree h = rw (leb-no 5120 (length tree) h)
+
+  pub list-short-values : length values < 8191 → lentEnough ≡ false
+  list-short-values h = rw (leb-no 8191 (length values) h) (and-off (enoughTree tree))
+
+  pub list-short-text : length text < 24576 → lentEnough ≡ false
+  list-short-text h = rw (leb-no 24576 (length text) h, and-off (enoughValues values)) (and-off (enoughTree tree))
+
+  module _ (h : 5120 ≤ length tree) (k : 8191 ≤ length values) (l : 24576 ≤ length text) {T : Table} {p : Prepared} (prepared : IsPrepared file T p) where
+    all-enough : lentEnough ≡ true
+    all-enough = rw (leb-in 5120 (length tree) h, leb-in 8191 (length values) k, leb-in 24576 (length text) l)
+
+    pub list-unmet : (p .question ≡ 0 → ⊥) → (turnedDown (p .question) ≡ showing file tree values text) × (text ≡ textAfter file tree values text)
+    list-unmet u = (
+      sym (asked-unmet file (questionsListing tree values) turnedDown (λ T. taken (length (shown file values T) ∷ [])) prepared all-enough u),
+      sym (asked-unmet file (questionsListing tree values) (λ n. text) (λ T. shown file values T ++ drop (length (shown file values T)) text) prepared all-enough u),
+    )
+
+    pub list-met : {text′ : List ℕ} {r : Listed} → p .question ≡ 0 → Showed file T tree values text text′ r
+        → (listedFrom r ≡ showing file tree values text) × (text′ ≡ textAfter file tree values text)
+    list-met z s = (
+      s .handed-back ∙ sym (asked-met file (questionsListing tree values) turnedDown (λ T. taken (length (shown file values T) ∷ [])) prepared all-enough z),
+      s .left ∙ sym (asked-met file (questionsListing tree values) (λ n. text) (λ T. shown file values T ++ drop (length (shown file values T)) text) prepared all-enough z),
+    )

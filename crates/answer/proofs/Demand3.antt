@@ -1,0 +1,210 @@
+-- Demand 3, whole, for every accepted file.
+-- The answers from the questions of the calls, one by one; models and trees from crate `planning`.
+use mathlib.Core.Path.{_≡_, refl, sym, ap, ap₂, _∙_, subst}
+use mathlib.Core.Bool.{Bool, true, false, _&&_}
+use mathlib.Core.List.{List, [], _∷_, _++_}
+use mathlib.Core.Logic.{_↔_}
+use mathlib.Core.Option.{Option, none, some}
+use Prim.Native.Nat.{ℕ, zero, suc, _≤_}
+use native.Mathlib.Omega.{arith}
+use lib.Dec.{leb}
+use lib.ListN.{length, take, drop}
+use lib.Seq.{take-at}
+use Rattle.lists.specs.List.{all}
+use Rattle.lists.specs.Question.{firstUnmet}
+use Rattle.lists.proofs.Bool.{leb-in, leb-sound, and-in, and-l, and-r, clash}
+use Rattle.planning.specs.Table.{Table}
+use Rattle.planning.specs.Tree.{Tree}
+use Rattle.planning.specs.Variable.{variables}
+use Rattle.planning.specs.Clause.{Lit, formula}
+use Rattle.planning.specs.Model.{value, satisfies, Model, given, Gives}
+use Rattle.planning.specs.Accepted.{Accepted}
+use Rattle.planning.proofs.Demand3.{demand3}
+use Rattle.tree.specs.Words.{met10}
+use Rattle.solver.specs.Line.{Word, satisfiable, unsatisfiable, unknown}
+use Rattle.solver.specs.File.{Answer, answerOf}
+use Rattle.solver.specs.Questions.{isSome, saysSatisfiable, numbersSaid, met12, met13, met14, onceEach, truths, bits}
+use Rattle.model.specs.Clauses.{truthsIn}
+use Rattle.solver.proofs.Once.{once-out, once-in, truths-length}
+use Rattle.solver.proofs.File.{answerFile, literals, file-length, file-says, file-met14, file-values}
+use Rattle.listing.specs.Listing.{Names, namesAt, listing}
+use Rattle.listing.proofs.Walked.{walked-is}
+use Rattle.listing.proofs.Fits.{walked-fits}
+use Rattle.questions.specs.Questions.{Verdict, accepted, accepting, namesOf, enoughTree, byNumber, byVerdict, asked, turnedDown, taken}
+use Rattle.questions.specs.Questions.{Answer as Outcome}
+use Rattle.answer.specs.Calls.{enoughValues, enoughListing, met15, answered, questionsTaking, taking, valuesAfter, own, lent14, lent, questionsListing, listingOf, shown, showing, textAfter}
+use Rattle.answer.specs.Demand3.{AcceptedAs, OwnTree, SaysSatisfiable, SetsAndSatisfies, Takes, Lists, Demand3Whole}
+use Rattle.answer.proofs.Questions.{FiveMet, five-met, five-of, lent-all, lent-met}
+use Rattle.answer.proofs.Acceptance.{accepted-table, short-names}
+use Rattle.answer.proofs.Bits.{bits-back, bits-same, bits-binary, bits-length}
+use Rattle.answer.proofs.Showing.{lent-model}
+
+-- A call on an accepted file -------------------------------------------------------------------------------------------------------
+never : {A : Type 0} {n : ℕ} {ns : List ℕ} → turnedDown n ≡ taken ns → A
+never e = let z : _≡_ {A = ℕ} 0 1 = cc in absurd (omega arith)
+
+module _ (file : List ℕ) (T : Table) (a : accepting file ≡ accepted T) (more : Table → List (ℕ × Bool)) where
+  pub all-asked : {A : Type 0} (refuse : ℕ → A) (succeed : Table → A) {b : Bool} → b ≡ true → firstUnmet (more T) ≡ 0 → asked b file more refuse succeed ≡ succeed T
+  all-asked refuse succeed e z = rw (e, a, z)
+
+  -- what was taken was lent enough, and met every question
+  pub was-taken : (f : Table → List ℕ) (b : Bool) {ns : List ℕ} → asked b file more turnedDown (λ T. taken (f T)) ≡ taken ns → (b ≡ true) × (firstUnmet (more T) ≡ 0)
+  was-taken f false e = never e
+  was-taken f true {ns} e = (refl, go (firstUnmet (more T)) (sym (ap (λ (v : Verdict). byVerdict v more turnedDown (λ T. taken (f T))) a) ∙ e))
+    where
+      go : (n : ℕ) → byNumber n turnedDown (taken (f T)) ≡ taken ns → n ≡ 0
+      go zero q = refl
+      go (suc n) q = never q
+
+-- Answers --------------------------------------------------------------------------------------------------------------------------
+-- what a formed answer is, where it says SATISFIABLE
+said : (o : Option Answer) → isSome o ≡ true → saysSatisfiable o ≡ true → o ≡ some (record { word = satisfiable; numbers = numbersSaid o })
+said none p q = clash q refl
+said (some a) p q = go (a .word) (a .numbers) q
+  where
+    go : (w : Word) (ls : List Lit) → saysSatisfiable (some (record { word = w; numbers = ls })) ≡ true
+        → _≡_ {A = Option Answer} (some (record { word = w; numbers = ls })) (some (record { word = satisfiable; numbers = ls }))
+    go satisfiable ls q = refl
+    go unsatisfiable ls q = clash q refl
+    go unknown ls q = clash q refl
+
+module _ (file : List ℕ) (T : Table) (a : accepting file ≡ accepted T) where
+  module _ (tree answer values : List ℕ) where
+    abbrev Met : Type 0
+    Met = FiveMet (met10 T tree) (met12 answer) (met13 answer) (met14 (variables T) answer) (met15 T (answered T answer))
+
+    abbrev enough : Bool
+    enough = enoughTree tree && enoughValues values
+
+    met-takes : enough ≡ true → Met → Takes file tree answer values T (answered T answer)
+    met-takes e m =
+        let z : firstUnmet (questionsTaking tree answer T) ≡ 0 = five-of (met10 T tree) (met12 answer) (met13 answer) (met14 (variables T) answer) (met15 T (answered T answer)) m in
+        record {
+          handed-back = all-asked file T a (questionsTaking tree answer) turnedDown (λ T. taken (variables T ∷ [])) e z;
+          left = all-asked file T a (questionsTaking tree answer) (λ n. values) (λ T. bits (answered T answer) ++ drop (variables T) values) e z;
+        }
+
+    takes-met : {ns : List ℕ} → taking file tree answer values ≡ taken ns → (enough ≡ true) × Met
+    takes-met e =
+        let r = was-taken file T a (questionsTaking tree answer) (λ T. variables T ∷ []) enough e in
+        (r .0, five-met (met10 T tree) (met12 answer) (met13 answer) (met14 (variables T) answer) (met15 T (answered T answer)) (r .1))
+
+    module _ (ls : List Lit) (s : SaysSatisfiable answer ls) where
+      said-numbers : numbersSaid (answerOf answer) ≡ ls
+      said-numbers = ap numbersSaid (s .formed)
+
+      sets-of : Met → SetsAndSatisfies T ls
+      sets-of m =
+          let r = once-out (variables T) ls (sym (ap (λ (ks : List Lit). onceEach (variables T) ks) said-numbers) ∙ m .fourteenth) in
+          record { once = r .0; no-other = r .1; satisfied = sym (ap (λ (ks : List Lit). satisfies (value (truths (variables T) ks)) (formula T)) said-numbers) ∙ m .fifteenth }
+
+      met-of : met10 T tree ≡ true → SetsAndSatisfies T ls → Met
+      met-of t h = record {
+        tenth = t;
+        twelfth = and-in (leb (length answer) 65536) (isSome (answerOf answer)) (leb-in (length answer) 65536 (s .short)) (ap isSome (s .formed));
+        thirteenth = ap saysSatisfiable (s .formed);
+        fourteenth = ap (λ (ks : List Lit). onceEach (variables T) ks) said-numbers ∙ once-in (variables T) ls (h .once) (h .no-other);
+        fifteenth = ap (λ (ks : List Lit). satisfies (value (truths (variables T) ks)) (formula T)) said-numbers ∙ h .satisfied;
+      }
+
+      pub takes : OwnTree T tree → 8191 ≤ length values → Takes file tree answer values T (truths (variables T) ls) ↔ SetsAndSatisfies T ls
+      takes o l = (
+        λ t. sets-of (takes-met (t .handed-back) .1),
+        λ h. subst (λ (ks : List Lit). Takes file tree answer values T (truths (variables T) ks)) said-numbers
+            (met-takes (and-in (enoughTree tree) (enoughValues values) (leb-in 5120 (length tree) (o .long)) (leb-in 8191 (length values) l)) (met-of (o .own) h)),
+      )
+
+    pub takes-no-other : (ns : List ℕ) → taking file tree answer values ≡ taken ns
+        → (ls : List Lit) × SaysSatisfiable answer ls × SetsAndSatisfies T ls × Takes file tree answer values T (truths (variables T) ls)
+    takes-no-other ns e =
+        let r = takes-met e in
+        let m = r .1 in
+        let ls = numbersSaid (answerOf answer) in
+        let s : SaysSatisfiable answer ls = record {
+          short = leb-sound (length answer) 65536 (and-l (leb (length answer) 65536) (isSome (answerOf answer)) (m .twelfth));
+          formed = said (answerOf answer) (and-r (leb (length answer) 65536) (isSome (answerOf answer)) (m .twelfth)) (m .thirteenth);
+        } in
+        (ls, s, sets-of ls s m, met-takes (r .0) m)
+
+    pub are-models : (ns : List ℕ) → taking file tree answer values ≡ taken ns → (vs : List Bool) × Model T vs × Takes file tree answer values T vs
+    are-models ns e =
+        let r = takes-no-other ns e in
+        (truths (variables T) (r .0), record { whole = truths-length (variables T) (r .0); true-clauses = r .2 .satisfied }, r .3)
+
+  pub all-models : (vs : List Bool) → Model T vs → (tree values : List ℕ) → OwnTree T tree → 8191 ≤ length values → (answer : List ℕ) × Takes file tree answer values T vs
+  all-models vs m tree values o l =
+      let h : length vs ≤ 9999 = omega (arith, m .whole, (accepted-table file T a) .few-variables) in
+      let ls = literals 1 vs in
+      let s : SaysSatisfiable (answerFile vs) ls = record { short = file-length vs h; formed = file-says vs h } in
+      let k : truths (variables T) ls ≡ vs =
+      ap (λ (n : ℕ). truths n ls) (sym (m .whole)) ∙ (sym (ap (λ (o : Option Answer). truths (length vs) (numbersSaid o)) (file-says vs h)) ∙ file-values vs h) in
+      let r = once-out (variables T) ls
+      (ap (λ (n : ℕ). onceEach n ls) (sym (m .whole))
+      ∙ (sym (ap (λ (o : Option Answer). onceEach (length vs) (numbersSaid o)) (file-says vs h)) ∙ file-met14 vs h)) in (
+        answerFile vs,
+        subst (λ (ws : List Bool). Takes file tree (answerFile vs) values T ws) k
+            (takes tree (answerFile vs) values ls s o l .1
+            (record { once = r .0; no-other = r .1; satisfied = subst (λ (ws : List Bool). satisfies (value ws) (formula T) ≡ true) (sym k) (m .true-clauses) })),
+      )
+
+  -- Listings -------------------------------------------------------------------------------------------------------------------------
+  module _ (tree values text : List ℕ) where
+    abbrev allEnough : Bool
+    allEnough = enoughTree tree && (enoughValues values && enoughListing text)
+
+    fits : (vs : List Bool) (t : Tree) → Model T vs → Gives T vs t → length (listing (namesAt file (namesOf file)) t) ≤ 24576
+    fits vs t m g =
+        let N = namesAt file (namesOf file) in
+        omega (arith, ap length (walked-is N m g), walked-fits (accepted-table file T a) (short-names file T a) (value vs))
+
+    shows : allEnough ≡ true → met10 T tree ≡ true → lent14 T values ≡ true → met15 T (lent T values) ≡ true → Model T (lent T values)
+        → (t : Tree) → Gives T (lent T values) t → Lists file tree values text t
+    shows e o p q m t g =
+        let N = namesAt file (namesOf file) in
+        let z : firstUnmet (questionsListing tree values T) ≡ 0 = lent-all (met10 T tree) (lent14 T values) (met15 T (lent T values)) o p q in
+        let s : shown file values T ≡ listing N t = ap (listingOf N) g in
+        record {
+          handed-back = all-asked file T a (questionsListing tree values) turnedDown (λ T. taken (length (shown file values T) ∷ [])) e z ∙ ap (λ (l : List ℕ). taken (length l ∷ [])) s;
+          left =
+              all-asked file T a (questionsListing tree values) (λ n. text) (λ T. shown file values T ++ drop (length (shown file values T)) text) e z
+              ∙ ap (λ (l : List ℕ). l ++ drop (length l) text) s;
+          fits = fits (lent T values) t m g;
+        }
+
+    pub lists-no-other : (ns : List ℕ) → showing file tree values text ≡ taken ns
+        → (vs : List Bool) × (t : Tree) × Model T vs × Gives T vs t × (take (variables T) values ≡ bits vs) × Lists file tree values text t
+    lists-no-other ns e =
+        let r = was-taken file T a (questionsListing tree values) (λ T. length (shown file values T) ∷ []) allEnough e in
+        let q = lent-met (met10 T tree) (lent14 T values) (met15 T (lent T values)) (r .1) in
+        let l = leb-sound 8191 (length values) (and-l (enoughValues values) (enoughListing text) (and-r (enoughTree tree) (enoughValues values && enoughListing text) (r .0))) in
+        let m = lent-model T (accepted-table file T a) values l (q .2) in
+        let g = demand3 T ((accepted-table file T a) .sound) .gives (lent T values) m in
+        (lent T values, g .0, m, g .1, sym (bits-same (own T values) (q .1)), shows (r .0) (q .0) (q .1) (q .2) m (g .0) (g .1))
+
+  pub lists : (tree more text : List ℕ) (vs : List Bool) (t : Tree) → OwnTree T tree → 8191 ≤ length (bits vs ++ more) → 24576 ≤ length text
+      → Model T vs → Gives T vs t → Lists file tree (bits vs ++ more) text t
+  lists tree more text vs t o l k m g =
+      let values = bits vs ++ more in
+      let w : own T values ≡ bits vs = take-at (bits vs) more (variables T) (bits-length vs ∙ m .whole) in
+      let z : lent T values ≡ vs = ap truthsIn w ∙ bits-back vs in
+      shows tree values text
+      (and-in (enoughTree tree) (enoughValues values && enoughListing text) (leb-in 5120 (length tree) (o .long)) (and-in (enoughValues values) (enoughListing text) (leb-in 8191 (length values) l) (leb-in 24576 (length text) k)))
+      (o .own) (ap (all (λ v. leb v 1)) w ∙ bits-binary vs)
+      (subst (λ (ws : List Bool). met15 T ws ≡ true) (sym z) (m .true-clauses))
+      (subst (λ (ws : List Bool). Model T ws) (sym z) m)
+      t (subst (λ (ws : List Bool). Gives T ws t) (sym z) g)
+
+pub demand3-whole : (file : List ℕ) (T : Table) → AcceptedAs file T → Demand3Whole file T
+demand3-whole file T a =
+    let d = demand3 T ((accepted-table file T a) .sound) in
+    record {
+      takes = λ tree answer values ls o l s. takes file T a tree answer values ls s o l;
+      takes-no-other = takes-no-other file T a;
+      are-models = are-models file T a;
+      all-models = all-models file T a;
+      gives = d .gives;
+      apart = d .apart;
+      exact = d .exact;
+      lists = lists file T a;
+      lists-no-other = lists-no-other file T a;
+    }

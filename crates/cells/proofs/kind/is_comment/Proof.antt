@@ -1,0 +1,59 @@
+use borrow.Author.Needs.{needs}
+use Rattle.cells.proofs.kind.is_comment.Statement.{statement}
+use Rattle.cells.proofs.kind.is_comment.Tie as tie
+use Rattle.cells.proofs.kind.is_comment.Reads as reads
+use Rattle.cells.proofs.kind.is_comment.Lts as lts
+use Rattle.cells.proofs.kind.kind_of.Reads as kind-of-reads
+use mathlib.Core.Path.{_≡_, refl, sym, _∙_}
+use Rattle.cells.proofs.Letters.{comment-is}
+use lib.Seq.{slice}
+
+-- src/kind.rt:48:11
+kind-of-requires : tie.Need-kind-of-requires
+kind-of-requires c κs = search needs
+
+-- src/kind.rt:49:26
+enum-told : tie.Need-enum-told
+enum-told c = search needs
+
+-- src/kind.rt:50:23
+enum-told-2 : tie.Need-enum-told-2
+enum-told-2 c = search needs
+
+-- src/kind.rt:51:25
+enum-told-3 : tie.Need-enum-told-3
+enum-told-3 c = search needs
+
+-- src/kind.rt:52:24
+enum-told-4 : tie.Need-enum-told-4
+enum-told-4 c = search needs
+
+-- src/kind.rt:44:1
+returns : tie.Need-returns
+returns c = comment-is (slice (c .before .before .before .before .args .a) (c .before .before .before .before .args .b) (c .before .before .before .before .args .s .now)) (sym (c .enum-told .given .1) ∙ c .before .before .kind-of .ensures) refl
+
+-- src/kind.rt:44:1
+returns-2 : tie.Need-returns-2
+returns-2 c = comment-is (slice (c .before .before .before .before .args .a) (c .before .before .before .before .args .b) (c .before .before .before .before .args .s .now)) (sym (c .enum-told2 .given .1) ∙ c .before .before .kind-of .ensures) refl
+
+-- src/kind.rt:44:1
+returns-3 : tie.Need-returns-3
+returns-3 c = comment-is (slice (c .before .before .before .before .args .a) (c .before .before .before .before .args .b) (c .before .before .before .before .args .s .now)) (sym (c .enum-told3 .given .1) ∙ c .before .before .kind-of .ensures) refl
+
+-- src/kind.rt:44:1
+returns-4 : tie.Need-returns-4
+returns-4 c = comment-is (slice (c .before .before .before .before .args .a) (c .before .before .before .before .args .b) (c .before .before .before .before .args .s .now)) (sym (c .enum-told4 .given .1) ∙ c .before .before .kind-of .ensures) refl
+
+pub is-comment-spec : {M : Type 1} → statement M
+is-comment-spec =
+    tie.close
+    (tie.spec
+    kind-of-requires
+    enum-told
+    enum-told-2
+    enum-told-3
+    enum-told-4
+    returns
+    returns-2
+    returns-3
+    returns-4)

@@ -1,0 +1,71 @@
+use borrow.Author.Needs.{needs}
+use Rattle.cells.proofs.kind.word_of.Statement.{statement}
+use Rattle.cells.proofs.kind.word_of.Tie as tie
+use Rattle.cells.proofs.kind.word_of.Reads as reads
+use Rattle.cells.proofs.kind.word_of.Lts as lts
+use Rattle.cells.proofs.kind.kind_of.Reads as kind-of-reads
+use Rattle.cells.proofs.kind.read_word.Reads as read-word-reads
+use mathlib.Core.Path.{_≡_, refl, sym, _∙_}
+use native.Mathlib.Omega.{arith}
+use Rattle.cells.proofs.Letters.{saying-not, saying-word, word-room}
+use lib.Seq.{slice}
+
+-- src/kind.rt:125:11
+kind-of-requires : tie.Need-kind-of-requires
+kind-of-requires c κs = search needs
+
+-- src/kind.rt:126:26
+enum-told : tie.Need-enum-told
+enum-told c = search needs
+
+-- src/kind.rt:128:21
+enum-told-2 : tie.Need-enum-told-2
+enum-told-2 c = search needs
+
+-- src/kind.rt:128:21
+add-i : tie.Need-add-i
+add-i c = omega (arith, word-room (c .before .before .before .before .args .s .now) (c .before .before .before .before .args .a) (c .before .before .before .before .args .b) (c .before .before .before .before .pre .1) (sym (c .enum-told2 .given .1) ∙ c .before .before .kind-of .ensures), c .before .before .before .before .pre .1)
+
+-- src/kind.rt:129:13
+read-word-requires : tie.Need-read-word-requires
+read-word-requires c κs = (word-room (c .before .before .before .before .args .s .now) (c .before .before .before .before .args .a) (c .before .before .before .before .args .b) (c .before .before .before .before .pre .1) (sym (c .enum-told2 .given .1) ∙ c .before .before .kind-of .ensures), c .before .before .before .before .pre .1)
+
+-- src/kind.rt:131:25
+enum-told-3 : tie.Need-enum-told-3
+enum-told-3 c = search needs
+
+-- src/kind.rt:132:24
+enum-told-4 : tie.Need-enum-told-4
+enum-told-4 c = search needs
+
+-- src/kind.rt:121:1
+returns : tie.Need-returns
+returns c = saying-not (slice (c .before .before .before .before .args .a) (c .before .before .before .before .args .b) (c .before .before .before .before .args .s .now)) _ (sym (c .enum-told .given .1) ∙ c .before .before .kind-of .ensures)
+
+-- src/kind.rt:121:1
+returns-2 : tie.Need-returns-2
+returns-2 c = c .read-word .ensures ∙ saying-word (c .before .before .before .before .before .args .s .now) (c .before .before .before .before .before .args .a) (c .before .before .before .before .before .args .b) (c .before .before .before .before .before .pre .1) (sym (c .before .enum-told2 .given .1) ∙ c .before .before .before .kind-of .ensures)
+
+-- src/kind.rt:121:1
+returns-3 : tie.Need-returns-3
+returns-3 c = saying-not (slice (c .before .before .before .before .args .a) (c .before .before .before .before .args .b) (c .before .before .before .before .args .s .now)) _ (sym (c .enum-told3 .given .1) ∙ c .before .before .kind-of .ensures)
+
+-- src/kind.rt:121:1
+returns-4 : tie.Need-returns-4
+returns-4 c = saying-not (slice (c .before .before .before .before .args .a) (c .before .before .before .before .args .b) (c .before .before .before .before .args .s .now)) _ (sym (c .enum-told4 .given .1) ∙ c .before .before .kind-of .ensures)
+
+pub word-of-spec : {M : Type 1} → statement M
+word-of-spec =
+    tie.close
+    (tie.spec
+    kind-of-requires
+    enum-told
+    enum-told-2
+    add-i
+    read-word-requires
+    enum-told-3
+    enum-told-4
+    returns
+    returns-2
+    returns-3
+    returns-4)

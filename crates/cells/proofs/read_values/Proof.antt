@@ -1,0 +1,35 @@
+use borrow.Author.Needs.{needs}
+use Rattle.cells.proofs.read_values.Statement.{statement}
+use Rattle.cells.proofs.read_values.Tie as tie
+use Rattle.cells.proofs.read_values.Reads as reads
+use Rattle.cells.proofs.read_values.Lts as lts
+use Rattle.cells.proofs.clear.Reads as clear-reads
+use Rattle.cells.proofs.judge.Reads as judge-reads
+use Rattle.cells.proofs.read_lines.Reads as read-lines-reads
+use mathlib.Core.Path.{_≡_, refl, sym, _∙_}
+use Rattle.cells.proofs.Whole.{judged}
+use Rattle.cells.proofs.Values.{le-at}
+
+-- src/lib.rt:242:5
+clear-requires : tie.Need-clear-requires
+clear-requires c κs = c .before .before .before .pre .1
+
+-- src/lib.rt:243:9
+read-lines-requires : tie.Need-read-lines-requires
+read-lines-requires c κs = (c .before .before .before .before .before .before .before .pre .0, le-at (c .before .before .before .clear .kept .0) (c .before .before .before .before .before .before .before .pre .1), c .before .before .before .clear .ensures)
+
+-- src/lib.rt:244:5
+judge-requires : tie.Need-judge-requires
+judge-requires c κs = le-at (c .before .before .before .read-lines .kept .1 .1 .0 ∙ c .before .before .before .before .before .before .before .clear .kept .0) (c .before .before .before .before .before .before .before .before .before .before .before .pre .1)
+
+-- src/lib.rt:238:1
+same-length : tie.Need-same-length
+same-length c = c .before .before .before .before .read-lines .kept .1 .1 .0 ∙ c .before .before .before .before .before .before .before .before .clear .kept .0
+
+-- src/lib.rt:238:1
+returns : tie.Need-returns
+returns c = judged (c .before .before .before .before .read-lines .ensures) (c .judge .ensures)
+
+pub read-values-spec : {M : Type 1} → statement M
+read-values-spec =
+    tie.close (tie.spec clear-requires read-lines-requires judge-requires same-length returns)

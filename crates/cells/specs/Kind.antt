@@ -1,0 +1,59 @@
+-- Inside the reader: the lines of an answer file by their kind. Nothing to believe: `lineOf` of crate `solver` is the meaning.
+-- 99, 115 and 118 are c, s and v; 32 is a space.
+use mathlib.Core.Path.{_≡_}
+use mathlib.Core.Bool.{Bool, true, false, cond}
+use mathlib.Core.List.{List, [], _∷_}
+use Prim.Native.Nat.{ℕ, _≤_}
+use lib.ListN.{length}
+use lib.Dec.{eqb}
+use lib.Seq.{slice}
+use Rattle.lists.specs.List.{dropWhile}
+use Rattle.lines.specs.Bytes.{LF, sameBytes}
+use Rattle.lines.specs.Parts.{ended}
+use Rattle.solver.specs.Line.{SATISFIABLE, UNSATISFIABLE, UNKNOWN}
+use Rattle.cells.specs.declared.kind.Kind.{Kind}
+use Rattle.cells.specs.declared.kind.Kind.the-variants.{Comment, Word as WordKind, Values, Other as OtherKind}
+use Rattle.cells.specs.declared.kind.Word.{Word}
+use Rattle.cells.specs.declared.kind.Word.the-variants.{Satisfiable, Other, None}
+
+-- by the letter, where a space stands behind it
+abbrev pub lettered : ℕ → Kind
+lettered b = cond (eqb b 99) Comment (cond (eqb b 115) WordKind (cond (eqb b 118) Values OtherKind))
+
+abbrev pub kind : List ℕ → Kind
+kind [] = OtherKind
+kind (b ∷ []) = cond (eqb b 99) Comment OtherKind
+kind (b ∷ d ∷ more) = cond (eqb d 32) (lettered b) OtherKind
+
+abbrev pub commentKind : Kind → Bool
+commentKind Comment = true
+commentKind WordKind = false
+commentKind Values = false
+commentKind OtherKind = false
+
+abbrev pub isComment : List ℕ → Bool
+isComment l = commentKind (kind l)
+
+-- r is the place of the first line from a on that is no comment
+pub record Passed (s : List ℕ) (a r : ℕ) : Type 0 where
+  pub high : r ≤ length s
+  pub rest : ended LF (slice r (length s) s) ≡ dropWhile isComment (ended LF (slice a (length s) s))
+
+-- the word in these bytes
+abbrev pub wordIn : List ℕ → Word
+wordIn bs = cond (sameBytes bs SATISFIABLE) Satisfiable (cond (sameBytes bs UNSATISFIABLE) Other (cond (sameBytes bs UNKNOWN) Other None))
+
+abbrev pub behind2 : List ℕ → List ℕ
+behind2 [] = []
+behind2 (b ∷ []) = []
+behind2 (b ∷ d ∷ more) = more
+
+abbrev pub sayingIf : Kind → List ℕ → Word
+sayingIf Comment bs = None
+sayingIf WordKind bs = wordIn bs
+sayingIf Values bs = None
+sayingIf OtherKind bs = None
+
+-- the word of an `s` line
+abbrev pub saying : List ℕ → Word
+saying l = sayingIf (kind l) (behind2 l)

@@ -1,0 +1,28 @@
+-- Inside the reader: how far an answer is read. Nothing to believe: `Reading` of crate `solver` is the meaning.
+-- Assumes nothing.
+use mathlib.Core.Path.{_≡_}
+use mathlib.Core.Bool.{Bool, cond}
+use mathlib.Core.List.{List}
+use mathlib.Core.Option.{Option, none, some}
+use Prim.Native.Nat.{ℕ, _-_}
+use lib.ListN.{take}
+use Rattle.planning.specs.Clause.{Lit, variableOf}
+use Rattle.solver.specs.Questions.{bit}
+use Rattle.solver.specs.Scan.{Reading, free, setIf, sign}
+use Rattle.cells.specs.declared.State.{State}
+
+-- the code's state and the cells
+abbrev pub way : State → List ℕ → Reading
+way st cs = record { ended = st .ended; off = st .off; cells = cs }
+
+abbrev pub stateFrom : State → List ℕ → Option Reading
+stateFrom st cs = cond (st .formed) (some (way st cs)) none
+
+-- the code's state and the first n cells are this reading
+pub record Stands (n : ℕ) (st : State) (cs : List ℕ) (o : Option Reading) : Type 0 where
+  pub is : stateFrom st (take n cs) ≡ o
+
+-- the number was put into the first n cells if its variable had not stood; r tells that
+pub record Put (n : ℕ) (l : Lit) (cs cs′ : List ℕ) (r : Bool) : Type 0 where
+  pub told : r ≡ free (take n cs) l
+  pub cells : take n cs′ ≡ setIf (free (take n cs) l) (take n cs) (variableOf l - 1) (bit (sign l))
