@@ -3,8 +3,7 @@
 use mathlib.Core.Path.{_≡_, refl, sym, ap, _∙_}
 use mathlib.Core.Bool.{Bool, true, false, cond}
 use mathlib.Core.List.{List, [], _∷_}
-use Prim.Native.Nat.{ℕ, suc, _+_, _-_, _≤_, _<_}
-use native.Mathlib.Numerals.{add-one}
+use Prim.Native.Nat.{ℕ, suc, _+_, _-_, _≤_}
 use native.Mathlib.Omega.{arith}
 use lib.ListN.{length, getD}
 use lib.Dec.{eqb}
@@ -16,9 +15,8 @@ use Rattle.lines.proofs.Slice.{slice-one}
 use Rattle.solver.specs.Line.{SATISFIABLE, UNSATISFIABLE, UNKNOWN}
 use Rattle.cells.specs.declared.kind.Kind.{Kind}
 use Rattle.cells.specs.declared.kind.Kind.the-variants.{Comment, Word as WordKind, Values, Other as OtherKind}
-use Rattle.cells.specs.declared.kind.Word.{Word}
 use Rattle.cells.specs.declared.kind.Word.the-variants.{Satisfiable, Other, None}
-use Rattle.cells.specs.Kind.{lettered, kind, commentKind, isComment, wordIn, behind2, sayingIf, saying}
+use Rattle.cells.specs.Kind.{lettered, kind, commentKind, isComment, wordIn, behindSpace, wordBy, wordOf}
 
 -- The first two bytes ------------------------------------------------------------------------------------------------------------
 pub kind-none : (s : List ℕ) (a b : ℕ) → a ≡ b → OtherKind ≡ kind (slice a b s)
@@ -97,10 +95,10 @@ module _ (bs : List ℕ) {r : Bool} (e : r ≡ sameBytes bs SATISFIABLE) (f : r 
     pub word-none : {t : Bool} → t ≡ sameBytes bs UNKNOWN → t ≡ false → None ≡ wordIn bs
     word-none q t = rw (← e, f, ← e2, f2, ← q, t)
 
-pub saying-word : (s : List ℕ) (a b : ℕ) → b ≤ length s → WordKind ≡ kind (slice a b s) → wordIn (slice (a + 2) b s) ≡ saying (slice a b s)
-saying-word s a b h e =
-    let q : behind2 (slice a b s) ≡ slice (a + 2) b s = rw (slice-two s a b h (word-room s a b h e)) in
+pub word-line : (s : List ℕ) (a b : ℕ) → b ≤ length s → WordKind ≡ kind (slice a b s) → wordIn (slice (a + 2) b s) ≡ wordOf (slice a b s)
+word-line s a b h e =
+    let q : behindSpace (slice a b s) ≡ slice (a + 2) b s = rw (slice-two s a b h (word-room s a b h e)) in
     rw (← e, q)
 
-pub saying-not : (l : List ℕ) (k : Kind) → k ≡ kind l → sayingIf k (behind2 l) ≡ saying l
-saying-not l k e = rw e
+pub word-no-line : (l : List ℕ) (k : Kind) → k ≡ kind l → wordBy k (behindSpace l) ≡ wordOf l
+word-no-line l k e = rw e

@@ -2,8 +2,8 @@
 -- One law for each way that the reading goes.
 use mathlib.Core.Path.{_≡_, refl, sym, ap, _∙_}
 use mathlib.Core.Bool.{Bool, true, false, not, _&&_, cond}
-use mathlib.Core.List.{List, [], _∷_}
-use mathlib.Core.Option.{Option, none, some}
+use mathlib.Core.List.{List, _∷_}
+use mathlib.Core.Option.{none, some}
 use Prim.Native.Nat.{ℕ, zero, suc, _+_, _-_, _*_, _^_, _≤_, _<_}
 use native.Mathlib.Numerals.{add-one}
 use native.Mathlib.Omega.{arith}
@@ -13,7 +13,7 @@ use lib.Seq.{slice, slice-empty, slice-cons, length-slice}
 use borrow.Author.Tests.{eq-eqb, ne-eqb, le-leb, lt-leb}
 use Rattle.lists.specs.List.{all}
 use Rattle.lists.proofs.Bool.{and-l, and-r, leb-sound}
-use Rattle.planning.specs.Clause.{Lit, literal}
+use Rattle.planning.specs.Clause.{literal}
 use Rattle.planning.specs.Promises.{readDecimal}
 use Rattle.lines.specs.Bytes.{within, digit}
 use Rattle.lines.proofs.Slice.{slice-one}

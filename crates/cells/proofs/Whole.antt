@@ -1,7 +1,7 @@
 -- The whole answer: from its first line that is no comment to the number that comes back.
 -- The definitions of crate `solver` go by `lineOf`; here they go by the kind of line and the word, as the code does.
 use mathlib.Core.Path.{_≡_, refl, sym, ap, _∙_}
-use mathlib.Core.Bool.{Bool, true, false, not, _&&_, cond}
+use mathlib.Core.Bool.{Bool, true, false, _&&_, cond}
 use mathlib.Core.List.{List, [], _∷_}
 use mathlib.Core.Logic.{_⊎_, ⊎-elim}
 use mathlib.Core.Option.{Option, none, some}
@@ -12,7 +12,7 @@ use lib.Dec.{eqb, leb, ltb}
 use lib.Seq.{slice}
 use borrow.Author.Tests.{le-leb, lt-leb}
 use Rattle.lists.specs.List.{all, dropWhile}
-use Rattle.lists.proofs.Bool.{bool-cases, clash, eqb-sound, and-off}
+use Rattle.lists.proofs.Bool.{bool-cases, clash}
 use Rattle.lists.proofs.Order.{le-refl, ne-lt}
 use Rattle.lines.specs.Bytes.{LF, sameBytes}
 use Rattle.lines.specs.Parts.{split, putByte, ended}
@@ -21,16 +21,16 @@ use Rattle.lines.proofs.Slice.{slice-whole}
 use Rattle.lines.proofs.Cutting.{line-last, line-more}
 use Rattle.planning.specs.Clause.{Lit}
 use Rattle.solver.specs.Number.{numberOf, numbersOf}
-use Rattle.solver.specs.Line.{Word as SaidWord, satisfiable, unsatisfiable, unknown, Line, comment, says, sets, unformed, lineOf, numbersLine, wordLine, SATISFIABLE, UNSATISFIABLE, UNKNOWN}
+use Rattle.solver.specs.Line.{Word as SaidWord, satisfiable, unsatisfiable, unknown, Line, comment, says, unformed, lineOf, numbersLine, wordLine, SATISFIABLE, UNSATISFIABLE, UNKNOWN}
 use Rattle.solver.specs.File.{allEnded}
-use Rattle.solver.specs.Scan.{Reading, begin, andOn, readPart, readParts, readLine, readLines, decide, fromLine, readFrom, heard}
+use Rattle.solver.specs.Scan.{Reading, begin, andOn, readPart, readLine, readLines, decide, fromLine, readFrom, heard}
 use Rattle.cells.specs.declared.kind.Kind.{Kind}
 use Rattle.cells.specs.declared.kind.Kind.the-variants.{Comment, Word as WordKind, Values, Other as OtherKind}
 use Rattle.cells.specs.declared.kind.Word.{Word}
 use Rattle.cells.specs.declared.kind.Word.the-variants.{Satisfiable, Other, None}
 use Rattle.cells.specs.declared.State.{State}
-use Rattle.cells.specs.Kind.{kind, commentKind, isComment, behind2, wordIn, sayingIf, saying, Passed}
-use Rattle.cells.specs.State.{way, stateFrom, Stands}
+use Rattle.cells.specs.Kind.{kind, commentKind, isComment, behindSpace, wordIn, wordBy, wordOf, Passed}
+use Rattle.cells.specs.State.{stateFrom, Stands}
 use Rattle.cells.specs.Read.{Told, onlyComments}
 use Rattle.cells.proofs.Reading.{lineBy, line-is}
 
@@ -113,7 +113,7 @@ some-part c (b ∷ bs) = go (eqb b c) (some-part c bs)
 
 module _ (w : SaidWord) (no : (r : Reading) (o : Option Lit) → readPart w r o ≡ none) where
   other-line : (r : Reading) (l : List ℕ) → readLine w r l ≡ cond (isComment l) (some r) none
-  other-line r l = line-is w r l ∙ go (kind l) (behind2 l)
+  other-line r l = line-is w r l ∙ go (kind l) (behindSpace l)
     where
       go : (k : Kind) (more : List ℕ) → lineBy k w r more ≡ cond (commentKind k) (some r) none
       go Comment more = refl
@@ -159,7 +159,7 @@ kindLine WordKind more = wordLine more
 kindLine Values more = numbersLine (numbersOf (split 32 more))
 kindLine OtherKind more = unformed
 
-line-kind : (l : List ℕ) → lineOf l ≡ kindLine (kind l) (behind2 l)
+line-kind : (l : List ℕ) → lineOf l ≡ kindLine (kind l) (behindSpace l)
 line-kind [] = refl
 line-kind (b ∷ []) = go (eqb b 99) (eqb b 115) (eqb b 118)
   where
@@ -190,7 +190,7 @@ fromWord n None ls = (12, [])
 
 module _ (n : ℕ) (l : List ℕ) (ls : List (List ℕ)) where
   from-comment : isComment l ≡ true → readFrom n (l ∷ ls) ≡ readFrom n ls
-  from-comment e = rw (line-kind l) (go (kind l) (behind2 l) e)
+  from-comment e = rw (line-kind l) (go (kind l) (behindSpace l) e)
     where
       go : (k : Kind) (more : List ℕ) → commentKind k ≡ true → fromLine n (kindLine k more) (readFrom n ls) ls ≡ readFrom n ls
       go Comment more e = refl
@@ -208,14 +208,14 @@ module _ (n : ℕ) (l : List ℕ) (ls : List (List ℕ)) where
       go false false true = unknown-is (begin n) ls
       go false false false = refl
 
-  from-other : isComment l ≡ false → readFrom n (l ∷ ls) ≡ fromWord n (saying l) ls
-  from-other e = rw (line-kind l) (go (kind l) (behind2 l) e)
+  from-other : isComment l ≡ false → readFrom n (l ∷ ls) ≡ fromWord n (wordOf l) ls
+  from-other e = rw (line-kind l) (go (kind l) (behindSpace l) e)
     where
       numbers : (o : Option (List Lit)) → fromLine n (numbersLine o) (readFrom n ls) ls ≡ (12, [])
       numbers none = refl
       numbers (some ks) = refl
 
-      go : (k : Kind) (more : List ℕ) → commentKind k ≡ false → fromLine n (kindLine k more) (readFrom n ls) ls ≡ fromWord n (sayingIf k more) ls
+      go : (k : Kind) (more : List ℕ) → commentKind k ≡ false → fromLine n (kindLine k more) (readFrom n ls) ls ≡ fromWord n (wordBy k more) ls
       go Comment more e = clash refl e
       go WordKind more e = from-word more
       go Values more e = numbers (numbersOf (split 32 more))
@@ -248,16 +248,16 @@ module _ (s : List ℕ) (n : ℕ) {t : Bool} (f : t ≡ fitting s) (y : t ≡ tr
       told-no 12 (rw q) (λ z. absurd (omega (arith, z)))
 
   module _ (m : b ≡ length s → ⊥) where
-    from-line : heard n s ≡ fromWord n (saying (slice a b s)) (ended LF (slice (b + 1) (length s) s))
+    from-line : heard n s ≡ fromWord n (wordOf (slice a b s)) (ended LF (slice (b + 1) (length s) s))
     from-line =
         let e = line-more k (le-refl (length s)) (ne-lt (k .high) m) in
         let c = first-kept (ended LF (slice 0 (length s) s)) (slice a b s) (ended LF (slice (b + 1) (length s) s)) (sym (p .rest) ∙ e) in
         from-first ∙ ap (readFrom n) e ∙ from-other n (slice a b s) (ended LF (slice (b + 1) (length s) s)) c
 
-    pub read-satisfiable : {cs : List ℕ} {r : ℕ} → Satisfiable ≡ saying (slice a b s) → Told (decide satisfiable (readLines satisfiable (begin n) (ended LF (slice (b + 1) (length s) s)))) n cs r → Told (heard n s) n cs r
+    pub read-satisfiable : {cs : List ℕ} {r : ℕ} → Satisfiable ≡ wordOf (slice a b s) → Told (decide satisfiable (readLines satisfiable (begin n) (ended LF (slice (b + 1) (length s) s)))) n cs r → Told (heard n s) n cs r
     read-satisfiable e t = let q = from-line in rw (q, ← e) t
 
-    pub read-other : {cs : List ℕ} {r : ℕ} → Other ≡ saying (slice a b s) → r ≡ onlyComments (ended LF (slice (b + 1) (length s) s)) → Told (heard n s) n cs r
+    pub read-other : {cs : List ℕ} {r : ℕ} → Other ≡ wordOf (slice a b s) → r ≡ onlyComments (ended LF (slice (b + 1) (length s) s)) → Told (heard n s) n cs r
     read-other {cs} {r} e t =
         let q = from-line in
         told-no r (rw (q, ← e) t) (λ z. not-zero (all isComment (ended LF (slice (b + 1) (length s) s))) (sym t ∙ z))
@@ -266,5 +266,5 @@ module _ (s : List ℕ) (n : ℕ) {t : Bool} (f : t ≡ fitting s) (y : t ≡ tr
         not-zero true z = omega (arith, z)
         not-zero false z = omega (arith, z)
 
-    pub read-wordless : {cs : List ℕ} → None ≡ saying (slice a b s) → Told (heard n s) n cs 12
+    pub read-wordless : {cs : List ℕ} → None ≡ wordOf (slice a b s) → Told (heard n s) n cs 12
     read-wordless e = let q = from-line in told-no 12 (rw (q, ← e)) (λ z. absurd (omega (arith, z)))

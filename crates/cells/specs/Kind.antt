@@ -1,5 +1,5 @@
--- Inside the reader: the lines of an answer file by their kind. Nothing to believe: `lineOf` of crate `solver` is the meaning.
--- 99, 115 and 118 are c, s and v; 32 is a space.
+-- Inside the reader: the lines of an answer file by their kind. Nothing to believe: `lineOf` of crate `solver` is the meaning. 99, 115
+-- and 118 are c, s and v; 32 is a space. Assumes nothing.
 use mathlib.Core.Path.{_≡_}
 use mathlib.Core.Bool.{Bool, true, false, cond}
 use mathlib.Core.List.{List, [], _∷_}
@@ -20,6 +20,7 @@ use Rattle.cells.specs.declared.kind.Word.the-variants.{Satisfiable, Oth
 abbrev pub lettered : ℕ → Kind
 lettered b = cond (eqb b 99) Comment (cond (eqb b 115) WordKind (cond (eqb b 118) Values OtherKind))
 
+-- `c` alone; or a letter, a space and more
 abbrev pub kind : List ℕ → Kind
 kind [] = OtherKind
 kind (b ∷ []) = cond (eqb b 99) Comment OtherKind
@@ -43,17 +44,18 @@ pub record Passed (s : List ℕ) (a r : ℕ) : Type 0 where
 abbrev pub wordIn : List ℕ → Word
 wordIn bs = cond (sameBytes bs SATISFIABLE) Satisfiable (cond (sameBytes bs UNSATISFIABLE) Other (cond (sameBytes bs UNKNOWN) Other None))
 
-abbrev pub behind2 : List ℕ → List ℕ
-behind2 [] = []
-behind2 (b ∷ []) = []
-behind2 (b ∷ d ∷ more) = more
+-- what stands behind the letter and the space
+abbrev pub behindSpace : List ℕ → List ℕ
+behindSpace [] = []
+behindSpace (b ∷ []) = []
+behindSpace (b ∷ d ∷ more) = more
 
-abbrev pub sayingIf : Kind → List ℕ → Word
-sayingIf Comment bs = None
-sayingIf WordKind bs = wordIn bs
-sayingIf Values bs = None
-sayingIf OtherKind bs = None
+abbrev pub wordBy : Kind → List ℕ → Word
+wordBy Comment bs = None
+wordBy WordKind bs = wordIn bs
+wordBy Values bs = None
+wordBy OtherKind bs = None
 
 -- the word of an `s` line
-abbrev pub saying : List ℕ → Word
-saying l = sayingIf (kind l) (behind2 l)
+abbrev pub wordOf : List ℕ → Word
+wordOf l = wordBy (kind l) (behindSpace l)

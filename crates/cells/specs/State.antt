@@ -12,11 +12,11 @@ use Rattle.solver.specs.Scan.{Reading, free, setIf, sign}
 use Rattle.cells.specs.declared.State.{State}
 
 -- the code's state and the cells
-abbrev pub way : State → List ℕ → Reading
-way st cs = record { ended = st .ended; off = st .off; cells = cs }
+abbrev pub readingFrom : State → List ℕ → Reading
+readingFrom st cs = record { ended = st .ended; off = st .off; cells = cs }
 
 abbrev pub stateFrom : State → List ℕ → Option Reading
-stateFrom st cs = cond (st .formed) (some (way st cs)) none
+stateFrom st cs = cond (st .formed) (some (readingFrom st cs)) none
 
 -- the code's state and the first n cells are this reading
 pub record Stands (n : ℕ) (st : State) (cs : List ℕ) (o : Option Reading) : Type 0 where

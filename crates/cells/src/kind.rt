@@ -4,9 +4,8 @@ ghost use mathlib.Core.Path.{_≡_};
 ghost use Prim.Native.Nat.{_≤_};
 ghost use lib.ListN.{length};
 ghost use lib.Seq.{slice};
-ghost use Rattle.lines.specs.Bytes.{sameBytes, LF};
-ghost use Rattle.lines.specs.Parts.{ended};
-ghost use Rattle.cells.specs.Kind.{kind, isComment, saying, wordIn, Passed};
+ghost use Rattle.lines.specs.Bytes.{sameBytes};
+ghost use Rattle.cells.specs.Kind.{kind, isComment, wordOf, wordIn, Passed};
 use lines::cut;
 
 // `c` alone; or the letter, a space and more.
@@ -120,7 +119,7 @@ fn read_word(s: &[u8], a: usize, b: usize) -> Word
 // The word of the `s` line from a up to b; none where it is no `s` line.
 pub fn word_of(s: &[u8], a: usize, b: usize) -> Word
     requires { ⌜ (a ≤ b) × (b ≤ length (now s)) ⌝ }
-    ensures { λ r. ⌜ r ≡ saying (slice a b (now (s .entry))) ⌝ }
+    ensures { λ r. ⌜ r ≡ wordOf (slice a b (now (s .entry))) ⌝ }
 {
     match kind_of(s, a, b) {
         Kind::Comment => Word::None,

@@ -18,7 +18,7 @@ ghost use Rattle.solver.specs.Number.{numberOf};
 ghost use Rattle.solver.specs.File.{allEnded};
 ghost use Rattle.solver.specs.Questions.{bit};
 ghost use Rattle.solver.specs.Scan.{begin, readNumber, readPart, readParts, readLine, readLines, decide};
-ghost use Rattle.cells.specs.State.{way, stateFrom, Stands, Put};
+ghost use Rattle.cells.specs.State.{readingFrom, stateFrom, Stands, Put};
 ghost use Rattle.cells.specs.Read.{Told, Read, onlyComments};
 use kind::Kind;
 use kind::Word;
@@ -101,7 +101,7 @@ fn unformed() -> State
 // One more number. Nothing comes after the 0.
 fn take_number(cells: &mut [u8], n: usize, v: usize, sign: bool, was: State) -> State
     requires { ⌜ n ≤ length (now cells) ⌝ }
-    ensures { λ r. ⌜ Stands n r (now (cells .exit)) (readNumber satisfiable (way was (take n (now (cells .entry)))) (literal sign v)) ⌝ }
+    ensures { λ r. ⌜ Stands n r (now (cells .exit)) (readNumber satisfiable (readingFrom was (take n (now (cells .entry)))) (literal sign v)) ⌝ }
 {
     if was.ended {
         return unformed();
@@ -137,7 +137,7 @@ fn read_part<'a, 'b>(
     was: State,
 ) -> State
     requires { ⌜ (a ≤ b) × (b ≤ length (now s)) × (n ≤ length (now cells)) ⌝ }
-    ensures { λ r. ⌜ Stands n r (now (cells .exit)) (readPart satisfiable (way was (take n (now (cells .entry)))) (numberOf (slice a b (now (s .entry))))) ⌝ }
+    ensures { λ r. ⌜ Stands n r (now (cells .exit)) (readPart satisfiable (readingFrom was (take n (now (cells .entry)))) (numberOf (slice a b (now (s .entry))))) ⌝ }
 {
     match read_number(s, a, b) {
         Number::None => unformed(),
@@ -155,7 +155,7 @@ fn read_parts<'a, 'b>(
     was: State,
 ) -> State
     requires { ⌜ (a ≤ b) × (b ≤ length (now s)) × (n ≤ length (now cells)) ⌝ }
-    ensures { λ r. ⌜ Stands n r (now (cells .exit)) (readParts satisfiable (way was (take n (now (cells .entry)))) (split 32 (slice a b (now (s .entry))))) ⌝ }
+    ensures { λ r. ⌜ Stands n r (now (cells .exit)) (readParts satisfiable (readingFrom was (take n (now (cells .entry)))) (split 32 (slice a b (now (s .entry))))) ⌝ }
 {
     let mut state = was;
     let mut i = a;
@@ -182,7 +182,7 @@ fn read_line<'a, 'b>(
     was: State,
 ) -> State
     requires { ⌜ (was .formed ≡ true) × (a ≤ b) × (b ≤ length (now s)) × (n ≤ length (now cells)) ⌝ }
-    ensures { λ r. ⌜ Stands n r (now (cells .exit)) (readLine satisfiable (way was (take n (now (cells .entry)))) (slice a b (now (s .entry)))) ⌝ }
+    ensures { λ r. ⌜ Stands n r (now (cells .exit)) (readLine satisfiable (readingFrom was (take n (now (cells .entry)))) (slice a b (now (s .entry)))) ⌝ }
 {
     match kind_of(s, a, b) {
         Kind::Comment => was,

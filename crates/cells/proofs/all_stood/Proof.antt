@@ -1,8 +1,6 @@
 use borrow.Author.Needs.{needs}
 use Rattle.cells.proofs.all_stood.Statement.{statement}
 use Rattle.cells.proofs.all_stood.Tie as tie
-use Rattle.cells.proofs.all_stood.Reads as reads
-use Rattle.cells.proofs.all_stood.Lts as lts
 use native.Mathlib.Omega.{arith}
 use Prim.Native.Nat.{_-_}
 use Rattle.lists.proofs.Order.{lt-le}

@@ -1,8 +1,6 @@
 use borrow.Author.Needs.{needs}
 use Rattle.cells.proofs.clear.Statement.{statement}
 use Rattle.cells.proofs.clear.Tie as tie
-use Rattle.cells.proofs.clear.Reads as reads
-use Rattle.cells.proofs.clear.Lts as lts
 use native.Mathlib.Omega.{arith}
 use Prim.Native.Nat.{_-_}
 use Rattle.cells.proofs.Values.{Cleared, cleared-first, cleared-more, cleared-done}

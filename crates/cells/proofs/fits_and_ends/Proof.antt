@@ -1,8 +1,6 @@
 use borrow.Author.Needs.{needs}
 use Rattle.cells.proofs.fits_and_ends.Statement.{statement}
 use Rattle.cells.proofs.fits_and_ends.Tie as tie
-use Rattle.cells.proofs.fits_and_ends.Reads as reads
-use Rattle.cells.proofs.fits_and_ends.Lts as lts
 use Rattle.cells.proofs.Whole.{fits-long, fits-empty, fits-byte}
 
 -- src/lib.rt:38:9

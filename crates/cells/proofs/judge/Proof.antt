@@ -1,9 +1,6 @@
 use borrow.Author.Needs.{needs}
 use Rattle.cells.proofs.judge.Statement.{statement}
 use Rattle.cells.proofs.judge.Tie as tie
-use Rattle.cells.proofs.judge.Reads as reads
-use Rattle.cells.proofs.judge.Lts as lts
-use Rattle.cells.proofs.all_stood.Reads as all-stood-reads
 use borrow.Author.Tests.{not-true, not-false}
 use Rattle.cells.proofs.Whole.{judge-unformed, judge-open, judge-off, judge-missing, judge-taken}
 

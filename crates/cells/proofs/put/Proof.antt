@@ -1,12 +1,8 @@
 use borrow.Author.Needs.{needs}
 use Rattle.cells.proofs.put.Statement.{statement}
 use Rattle.cells.proofs.put.Tie as tie
-use Rattle.cells.proofs.put.Reads as reads
-use Rattle.cells.proofs.put.Lts as lts
-use Rattle.cells.proofs.bit_of.Reads as bit-of-reads
 use native.Mathlib.Omega.{arith}
 use Rattle.cells.proofs.Values.{put-zero, put-over, put-stood, put-free}
-use lib.ListN.{length-set}
 
 -- src/lib.rt:71:9
 returns : tie.Need-returns

@@ -1,15 +1,7 @@
 use borrow.Author.Needs.{needs}
 use Rattle.cells.proofs.read.Statement.{statement}
 use Rattle.cells.proofs.read.Tie as tie
-use Rattle.cells.proofs.read.Reads as reads
-use Rattle.cells.proofs.read.Lts as lts
-use Rattle.cells.proofs.fits_and_ends.Reads as fits-and-ends-reads
-use Rattle.cells.proofs.kind.pass_comments.Reads as pass-comments-reads
-use Rattle.cells.proofs.kind.word_of.Reads as word-of-reads
-use Rattle.cells.proofs.read_others.Reads as read-others-reads
-use Rattle.cells.proofs.read_values.Reads as read-values-reads
-use Rattle.lines.proofs.cut.Reads as cut-reads
-use mathlib.Core.Path.{_≡_, refl, sym, _∙_}
+use mathlib.Core.Path.{sym, _∙_}
 use native.Mathlib.Omega.{arith}
 use borrow.Author.Tests.{not-true, not-false}
 use Rattle.lists.proofs.Order.{le-refl, zero-least, ne-lt-one}

@@ -1,17 +1,12 @@
 use borrow.Author.Needs.{needs}
 use Rattle.cells.proofs.read_line.Statement.{statement}
 use Rattle.cells.proofs.read_line.Tie as tie
-use Rattle.cells.proofs.read_line.Reads as reads
-use Rattle.cells.proofs.read_line.Lts as lts
-use Rattle.cells.proofs.kind.kind_of.Reads as kind-of-reads
-use Rattle.cells.proofs.read_parts.Reads as read-parts-reads
-use Rattle.cells.proofs.unformed.Reads as unformed-reads
-use mathlib.Core.Path.{_≡_, refl, sym, _∙_}
+use mathlib.Core.Path.{sym, _∙_}
 use native.Mathlib.Omega.{arith}
 use lib.Seq.{slice}
 use lib.ListN.{take}
 use Rattle.solver.specs.Line.{satisfiable}
-use Rattle.cells.specs.State.{way}
+use Rattle.cells.specs.State.{readingFrom}
 use Rattle.cells.proofs.Letters.{values-room}
 use Rattle.cells.proofs.Reading.{stands-same, stands-none, stands-line, line-word, line-other, line-parts}
 
@@ -57,7 +52,7 @@ returns c = stands-same (c .before .before .before .before .before .args .was) (
 
 -- src/lib.rt:162:1
 returns-2 : tie.Need-returns-2
-returns-2 c = stands-none (way (c .before .before .before .before .before .before .args .was) (take (c .before .before .before .before .before .before .args .n) (c .before .before .before .before .before .before .args .cells .now))) (slice (c .before .before .before .before .before .before .args .a) (c .before .before .before .before .before .before .args .b) (c .before .before .before .before .before .before .args .s .now)) (line-word satisfiable (way (c .before .before .before .before .before .before .args .was) (take (c .before .before .before .before .before .before .args .n) (c .before .before .before .before .before .before .args .cells .now))) (slice (c .before .before .before .before .before .before .args .a) (c .before .before .before .before .before .before .args .b) (c .before .before .before .before .before .before .args .s .now)) (sym (c .before .enum-told2 .given .1) ∙ c .before .before .before .kind-of .ensures)) (c .unformed .ensures)
+returns-2 c = stands-none (readingFrom (c .before .before .before .before .before .before .args .was) (take (c .before .before .before .before .before .before .args .n) (c .before .before .before .before .before .before .args .cells .now))) (slice (c .before .before .before .before .before .before .args .a) (c .before .before .before .before .before .before .args .b) (c .before .before .before .before .before .before .args .s .now)) (line-word satisfiable (readingFrom (c .before .before .before .before .before .before .args .was) (take (c .before .before .before .before .before .before .args .n) (c .before .before .before .before .before .before .args .cells .now))) (slice (c .before .before .before .before .before .before .args .a) (c .before .before .before .before .before .before .args .b) (c .before .before .before .before .before .before .args .s .now)) (sym (c .before .enum-told2 .given .1) ∙ c .before .before .before .kind-of .ensures)) (c .unformed .ensures)
 
 -- src/lib.rt:162:1
 same-length : tie.Need-same-length
@@ -65,11 +60,11 @@ same-length c = search needs
 
 -- src/lib.rt:162:1
 returns-3 : tie.Need-returns-3
-returns-3 c = stands-line (c .before .before .read-parts .ensures) (line-parts satisfiable (way (c .before .before .before .before .before .before .before .before .before .args .was) (take (c .before .before .before .before .before .before .before .before .before .args .n) (c .before .before .before .before .before .before .before .before .before .args .cells .now))) (c .before .before .before .before .before .before .before .before .before .args .s .now) (c .before .before .before .before .before .before .before .before .before .args .a) (c .before .before .before .before .before .before .before .before .before .args .b) (c .before .before .before .before .before .before .before .before .before .pre .2) (sym (c .before .before .before .before .enum-told3 .given .1) ∙ c .before .before .before .before .before .before .kind-of .ensures))
+returns-3 c = stands-line (c .before .before .read-parts .ensures) (line-parts satisfiable (readingFrom (c .before .before .before .before .before .before .before .before .before .args .was) (take (c .before .before .before .before .before .before .before .before .before .args .n) (c .before .before .before .before .before .before .before .before .before .args .cells .now))) (c .before .before .before .before .before .before .before .before .before .args .s .now) (c .before .before .before .before .before .before .before .before .before .args .a) (c .before .before .before .before .before .before .before .before .before .args .b) (c .before .before .before .before .before .before .before .before .before .pre .2) (sym (c .before .before .before .before .enum-told3 .given .1) ∙ c .before .before .before .before .before .before .kind-of .ensures))
 
 -- src/lib.rt:162:1
 returns-4 : tie.Need-returns-4
-returns-4 c = stands-none (way (c .before .before .before .before .before .before .args .was) (take (c .before .before .before .before .before .before .args .n) (c .before .before .before .before .before .before .args .cells .now))) (slice (c .before .before .before .before .before .before .args .a) (c .before .before .before .before .before .before .args .b) (c .before .before .before .before .before .before .args .s .now)) (line-other satisfiable (way (c .before .before .before .before .before .before .args .was) (take (c .before .before .before .before .before .before .args .n) (c .before .before .before .before .before .before .args .cells .now))) (slice (c .before .before .before .before .before .before .args .a) (c .before .before .before .before .before .before .args .b) (c .before .before .before .before .before .before .args .s .now)) (sym (c .before .enum-told4 .given .1) ∙ c .before .before .before .kind-of .ensures)) (c .unformed2 .ensures)
+returns-4 c = stands-none (readingFrom (c .before .before .before .before .before .before .args .was) (take (c .before .before .before .before .before .before .args .n) (c .before .before .before .before .before .before .args .cells .now))) (slice (c .before .before .before .before .before .before .args .a) (c .before .before .before .before .before .before .args .b) (c .before .before .before .before .before .before .args .s .now)) (line-other satisfiable (readingFrom (c .before .before .before .before .before .before .args .was) (take (c .before .before .before .before .before .before .args .n) (c .before .before .before .before .before .before .args .cells .now))) (slice (c .before .before .before .before .before .before .args .a) (c .before .before .before .before .before .before .args .b) (c .before .before .before .before .before .before .args .s .now)) (sym (c .before .enum-told4 .given .1) ∙ c .before .before .before .kind-of .ensures)) (c .unformed2 .ensures)
 
 pub read-line-spec : {M : Type 1} → statement M
 read-line-spec =

@@ -1,11 +1,6 @@
-use borrow.Author.Needs.{needs}
 use Rattle.cells.proofs.read_lines.Statement.{statement}
 use Rattle.cells.proofs.read_lines.Tie as tie
-use Rattle.cells.proofs.read_lines.Reads as reads
-use Rattle.cells.proofs.read_lines.Lts as lts
-use Rattle.cells.proofs.read_line.Reads as read-line-reads
-use Rattle.lines.proofs.cut.Reads as cut-reads
-use mathlib.Core.Path.{_≡_, refl, sym, _∙_}
+use mathlib.Core.Path.{refl, _∙_}
 use native.Mathlib.Omega.{arith}
 use Prim.Native.Nat.{_-_}
 use lib.ListN.{length}
@@ -34,7 +29,7 @@ same-length c = c .before .before .before .loop .inv .kept
 
 -- src/lib.rt:191:13
 returns : tie.Need-returns Inv-loop μ-loop
-returns c = lines-last (c .before .before .before .before .before .before .args .s .now) (c .before .before .before .before .before .before .args .at) (c .before .before .before .before .before .before .args .n) (c .before .before .before .loop .inv) (c .before .cut .ensures) (c .if1 .taken)
+returns c = lines-last (c .before .before .before .loop .inv) (c .before .cut .ensures) (c .if1 .taken)
 
 -- src/lib.rt:193:9
 read-line-requires : tie.Need-read-line-requires Inv-loop μ-loop
@@ -46,7 +41,7 @@ same-length-2 c = c .before .before .before .before .read-line .kept .1 .1 .1 .0
 
 -- src/lib.rt:195:13
 returns-2 : tie.Need-returns-2 Inv-loop μ-loop
-returns-2 c = lines-out (c .before .before .before .before .before .before .before .before .before .before .before .before .args .s .now) (c .before .before .before .before .before .before .before .before .before .before .before .before .args .at) (c .before .before .before .before .before .before .before .before .before .before .before .before .args .n) (c .before .before .before .before .before .before .before .before .before .loop .inv) (c .before .before .before .before .before .before .before .cut .ensures) (c .before .before .before .before .before .before .if1 .left) (c .before .before .before .before .read-line .ensures) (not-true _ (c .if2 .taken))
+returns-2 c = lines-out (c .before .before .before .before .before .before .before .before .before .loop .inv) (c .before .before .before .before .before .before .before .cut .ensures) (c .before .before .before .before .before .before .if1 .left) (c .before .before .before .before .read-line .ensures) (not-true _ (c .if2 .taken))
 
 -- src/lib.rt:197:13
 add-a : tie.Need-add-a Inv-loop μ-loop
@@ -58,7 +53,7 @@ loop-less c = falls (c .before .before .before .before .before .before .before .
 
 -- src/lib.rt:188:5
 loop-again : tie.Need-loop-again Inv-loop μ-loop
-loop-again c = lines-more (c .before .before .before .before .before .before .before .before .before .before .before .before .args .s .now) (c .before .before .before .before .before .before .before .before .before .before .before .before .args .at) (c .before .before .before .before .before .before .before .before .before .before .before .before .args .n) (c .before .before .before .before .before .before .before .before .before .loop .inv) (c .before .before .before .before .before .before .before .cut .ensures) (c .before .before .before .before .before .before .if1 .left) (c .before .before .before .before .read-line .ensures) (not-false _ (c .if2 .left)) (c .before .before .before .before .read-line .kept .1 .1 .1 .0)
+loop-again c = lines-more (c .before .before .before .before .before .before .before .before .before .loop .inv) (c .before .before .before .before .before .before .before .cut .ensures) (c .before .before .before .before .before .before .if1 .left) (c .before .before .before .before .read-line .ensures) (not-false _ (c .if2 .left)) (c .before .before .before .before .read-line .kept .1 .1 .1 .0)
 
 -- src/lib.rt:177:1
 same-length-3 : tie.Need-same-length-3 Inv-loop μ-loop
@@ -66,7 +61,7 @@ same-length-3 c = c .before .loop .inv .kept
 
 -- src/lib.rt:177:1
 returns-3 : tie.Need-returns-3 Inv-loop μ-loop
-returns-3 c = lines-end (c .before .before .before .before .args .s .now) (c .before .before .before .before .args .at) (c .before .before .before .before .args .n) (c .before .loop .inv) (c .loop-test .left)
+returns-3 c = lines-end (c .before .loop .inv) (c .loop-test .left)
 
 pub read-lines-spec : {M : Type 1} → statement M
 read-lines-spec =

@@ -1,10 +1,6 @@
 use borrow.Author.Needs.{needs}
 use Rattle.cells.proofs.read_others.Statement.{statement}
 use Rattle.cells.proofs.read_others.Tie as tie
-use Rattle.cells.proofs.read_others.Reads as reads
-use Rattle.cells.proofs.read_others.Lts as lts
-use Rattle.cells.proofs.kind.pass_comments.Reads as pass-comments-reads
-use Rattle.lines.proofs.cut.Reads as cut-reads
 use Rattle.lists.proofs.Order.{le-refl}
 use Rattle.cells.proofs.Whole.{others-only, others-more}
 

@@ -1,12 +1,6 @@
 use borrow.Author.Needs.{needs}
 use Rattle.cells.proofs.read_part.Statement.{statement}
 use Rattle.cells.proofs.read_part.Tie as tie
-use Rattle.cells.proofs.read_part.Reads as reads
-use Rattle.cells.proofs.read_part.Lts as lts
-use Rattle.cells.proofs.number.read_number.Reads as read-number-reads
-use Rattle.cells.proofs.take_number.Reads as take-number-reads
-use Rattle.cells.proofs.unformed.Reads as unformed-reads
-use mathlib.Core.Path.{_≡_, refl, sym, _∙_}
 use Rattle.cells.proofs.Reading.{part-none, part-some}
 use Rattle.planning.specs.Clause.{literal}
 

@@ -1,11 +1,6 @@
-use borrow.Author.Needs.{needs}
 use Rattle.cells.proofs.read_parts.Statement.{statement}
 use Rattle.cells.proofs.read_parts.Tie as tie
-use Rattle.cells.proofs.read_parts.Reads as reads
-use Rattle.cells.proofs.read_parts.Lts as lts
-use Rattle.cells.proofs.read_part.Reads as read-part-reads
-use Rattle.lines.proofs.cut.Reads as cut-reads
-use mathlib.Core.Path.{_≡_, refl, sym, _∙_}
+use mathlib.Core.Path.{_∙_}
 use native.Mathlib.Omega.{arith}
 use Prim.Native.Nat.{_-_}
 use Rattle.lists.proofs.Order.{le-trans, falls}
@@ -37,7 +32,7 @@ same-length c = c .before .before .before .before .read-part .kept .1 .1 .1 .0 �
 
 -- src/lib.rt:152:13
 returns : tie.Need-returns Inv-loop μ-loop
-returns c = parts-out (c .before .before .before .before .before .before .before .before .before .before .args .s .now) (c .before .before .before .before .before .before .before .before .before .before .args .a) (c .before .before .before .before .before .before .before .before .before .before .args .b) (c .before .before .before .before .before .before .before .before .before .before .args .n) (c .before .before .before .before .before .before .before .before .before .before .args .was) (c .before .before .before .before .before .before .before .before .before .before .args .cells .now) (c .before .before .before .before .before .before .before .before .before .before .pre .1) (c .before .before .before .before .before .before .before .loop .inv) (c .before .before .before .before .before .before .cut .ensures) (c .before .before .before .before .read-part .ensures) (not-true _ (c .if1 .taken))
+returns c = parts-out (c .before .before .before .before .before .before .before .loop .inv) (c .before .before .before .before .before .before .before .before .before .before .pre .1) (c .before .before .before .before .before .before .cut .ensures) (c .before .before .before .before .read-part .ensures) (not-true _ (c .if1 .taken))
 
 -- src/lib.rt:155:13
 same-length-2 : tie.Need-same-length-2 Inv-loop μ-loop
@@ -45,7 +40,7 @@ same-length-2 c = c .before .before .before .before .before .read-part .kept .1 
 
 -- src/lib.rt:155:13
 returns-2 : tie.Need-returns-2 Inv-loop μ-loop
-returns-2 c = parts-last (c .before .before .before .before .before .before .before .before .before .before .before .args .s .now) (c .before .before .before .before .before .before .before .before .before .before .before .args .a) (c .before .before .before .before .before .before .before .before .before .before .before .args .b) (c .before .before .before .before .before .before .before .before .before .before .before .args .n) (c .before .before .before .before .before .before .before .before .before .before .before .args .was) (c .before .before .before .before .before .before .before .before .before .before .before .args .cells .now) (c .before .before .before .before .before .before .before .before .before .before .before .pre .1) (c .before .before .before .before .before .before .before .before .loop .inv) (c .before .before .before .before .before .before .before .cut .ensures) (c .before .before .before .before .before .read-part .ensures) (not-false _ (c .before .if1 .left)) (c .if2 .taken)
+returns-2 c = parts-last (c .before .before .before .before .before .before .before .before .loop .inv) (c .before .before .before .before .before .before .before .before .before .before .before .pre .1) (c .before .before .before .before .before .before .before .cut .ensures) (c .before .before .before .before .before .read-part .ensures) (not-false _ (c .before .if1 .left)) (c .if2 .taken)
 
 -- src/lib.rt:157:13
 add-i : tie.Need-add-i Inv-loop μ-loop
@@ -57,7 +52,7 @@ loop-less c = falls (c .before .before .before .before .before .before .before .
 
 -- src/lib.rt:148:5
 loop-again : tie.Need-loop-again Inv-loop μ-loop
-loop-again c = parts-more (c .before .before .before .before .before .before .before .before .before .before .before .args .s .now) (c .before .before .before .before .before .before .before .before .before .before .before .args .a) (c .before .before .before .before .before .before .before .before .before .before .before .args .b) (c .before .before .before .before .before .before .before .before .before .before .before .args .n) (c .before .before .before .before .before .before .before .before .before .before .before .args .was) (c .before .before .before .before .before .before .before .before .before .before .before .args .cells .now) (c .before .before .before .before .before .before .before .before .before .before .before .pre .1) (c .before .before .before .before .before .before .before .before .loop .inv) (c .before .before .before .before .before .before .before .cut .ensures) (c .before .before .before .before .before .read-part .ensures) (not-false _ (c .before .if1 .left)) (c .if2 .left) (c .before .before .before .before .before .read-part .kept .1 .1 .1 .0)
+loop-again c = parts-more (c .before .before .before .before .before .before .before .before .loop .inv) (c .before .before .before .before .before .before .before .before .before .before .before .pre .1) (c .before .before .before .before .before .before .before .cut .ensures) (c .before .before .before .before .before .read-part .ensures) (not-false _ (c .before .if1 .left)) (c .if2 .left) (c .before .before .before .before .before .read-part .kept .1 .1 .1 .0)
 
 pub read-parts-spec : {M : Type 1} → statement M
 read-parts-spec =

@@ -1,12 +1,6 @@
-use borrow.Author.Needs.{needs}
 use Rattle.cells.proofs.read_values.Statement.{statement}
 use Rattle.cells.proofs.read_values.Tie as tie
-use Rattle.cells.proofs.read_values.Reads as reads
-use Rattle.cells.proofs.read_values.Lts as lts
-use Rattle.cells.proofs.clear.Reads as clear-reads
-use Rattle.cells.proofs.judge.Reads as judge-reads
-use Rattle.cells.proofs.read_lines.Reads as read-lines-reads
-use mathlib.Core.Path.{_≡_, refl, sym, _∙_}
+use mathlib.Core.Path.{_∙_}
 use Rattle.cells.proofs.Whole.{judged}
 use Rattle.cells.proofs.Values.{le-at}
 

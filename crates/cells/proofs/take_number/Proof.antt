@@ -1,13 +1,6 @@
 use borrow.Author.Needs.{needs}
 use Rattle.cells.proofs.take_number.Statement.{statement}
 use Rattle.cells.proofs.take_number.Tie as tie
-use Rattle.cells.proofs.take_number.Reads as reads
-use Rattle.cells.proofs.take_number.Lts as lts
-use Rattle.cells.proofs.put.Reads as put-reads
-use Rattle.cells.proofs.unformed.Reads as unformed-reads
-use mathlib.Core.Path.{_≡_, refl, sym, _∙_}
-use Rattle.cells.proofs.Reading.{state-none, number-after, number-end, number-put, number-off}
-use lib.ListN.{take}
 use Rattle.cells.proofs.Reading.{number-after, number-end, number-put, number-off}
 
 -- src/lib.rt:107:9

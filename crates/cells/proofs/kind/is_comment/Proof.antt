@@ -1,10 +1,7 @@
 use borrow.Author.Needs.{needs}
 use Rattle.cells.proofs.kind.is_comment.Statement.{statement}
 use Rattle.cells.proofs.kind.is_comment.Tie as tie
-use Rattle.cells.proofs.kind.is_comment.Reads as reads
-use Rattle.cells.proofs.kind.is_comment.Lts as lts
-use Rattle.cells.proofs.kind.kind_of.Reads as kind-of-reads
-use mathlib.Core.Path.{_≡_, refl, sym, _∙_}
+use mathlib.Core.Path.{refl, sym, _∙_}
 use Rattle.cells.proofs.Letters.{comment-is}
 use lib.Seq.{slice}
 

@@ -1,8 +1,6 @@
 use borrow.Author.Needs.{needs}
 use Rattle.cells.proofs.kind.is_text.Statement.{statement}
 use Rattle.cells.proofs.kind.is_text.Tie as tie
-use Rattle.cells.proofs.kind.is_text.Reads as reads
-use Rattle.cells.proofs.kind.is_text.Lts as lts
 use native.Mathlib.Omega.{arith}
 use Rattle.cells.proofs.Texts.{Like, like-not, like-first, like-room, like-out, like-more, like-done}
 use Prim.Native.Nat.{_-_, _≤_}

@@ -1,8 +1,6 @@
 use borrow.Author.Needs.{needs}
 use Rattle.cells.proofs.kind.kind_of.Statement.{statement}
 use Rattle.cells.proofs.kind.kind_of.Tie as tie
-use Rattle.cells.proofs.kind.kind_of.Reads as reads
-use Rattle.cells.proofs.kind.kind_of.Lts as lts
 use Rattle.cells.proofs.Letters.{kind-none, kind-c, kind-alone, kind-unspaced, kind-lettered, lettered-c, lettered-s, lettered-v, lettered-other}
 
 -- src/kind.rt:25:9

@@ -1,10 +1,5 @@
-use borrow.Author.Needs.{needs}
 use Rattle.cells.proofs.kind.pass_comments.Statement.{statement}
 use Rattle.cells.proofs.kind.pass_comments.Tie as tie
-use Rattle.cells.proofs.kind.pass_comments.Reads as reads
-use Rattle.cells.proofs.kind.pass_comments.Lts as lts
-use Rattle.cells.proofs.kind.is_comment.Reads as is-comment-reads
-use Rattle.lines.proofs.cut.Reads as cut-reads
 use native.Mathlib.Omega.{arith}
 use Rattle.lists.proofs.Bool.{said-no, said-yes}
 use Rattle.cells.proofs.Texts.{Passing, passing-first, passing-last, passing-stop, passing-more, passing-end}

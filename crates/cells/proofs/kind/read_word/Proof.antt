@@ -1,9 +1,6 @@
 use borrow.Author.Needs.{needs}
 use Rattle.cells.proofs.kind.read_word.Statement.{statement}
 use Rattle.cells.proofs.kind.read_word.Tie as tie
-use Rattle.cells.proofs.kind.read_word.Reads as reads
-use Rattle.cells.proofs.kind.read_word.Lts as lts
-use Rattle.cells.proofs.kind.is_text.Reads as is-text-reads
 use Rattle.cells.proofs.Letters.{word-satisfiable, word-unsatisfiable, word-unknown, word-none}
 use lib.Seq.{slice}
 

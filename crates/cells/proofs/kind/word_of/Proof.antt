@@ -1,13 +1,9 @@
 use borrow.Author.Needs.{needs}
 use Rattle.cells.proofs.kind.word_of.Statement.{statement}
 use Rattle.cells.proofs.kind.word_of.Tie as tie
-use Rattle.cells.proofs.kind.word_of.Reads as reads
-use Rattle.cells.proofs.kind.word_of.Lts as lts
-use Rattle.cells.proofs.kind.kind_of.Reads as kind-of-reads
-use Rattle.cells.proofs.kind.read_word.Reads as read-word-reads
-use mathlib.Core.Path.{_≡_, refl, sym, _∙_}
+use mathlib.Core.Path.{sym, _∙_}
 use native.Mathlib.Omega.{arith}
-use Rattle.cells.proofs.Letters.{saying-not, saying-word, word-room}
+use Rattle.cells.proofs.Letters.{word-no-line, word-line, word-room}
 use lib.Seq.{slice}
 
 -- src/kind.rt:125:11
@@ -40,19 +36,19 @@ enum-told-4 c = search needs
 
 -- src/kind.rt:121:1
 returns : tie.Need-returns
-returns c = saying-not (slice (c .before .before .before .before .args .a) (c .before .before .before .before .args .b) (c .before .before .before .before .args .s .now)) _ (sym (c .enum-told .given .1) ∙ c .before .before .kind-of .ensures)
+returns c = word-no-line (slice (c .before .before .before .before .args .a) (c .before .before .before .before .args .b) (c .before .before .before .before .args .s .now)) _ (sym (c .enum-told .given .1) ∙ c .before .before .kind-of .ensures)
 
 -- src/kind.rt:121:1
 returns-2 : tie.Need-returns-2
-returns-2 c = c .read-word .ensures ∙ saying-word (c .before .before .before .before .before .args .s .now) (c .before .before .before .before .before .args .a) (c .before .before .before .before .before .args .b) (c .before .before .before .before .before .pre .1) (sym (c .before .enum-told2 .given .1) ∙ c .before .before .before .kind-of .ensures)
+returns-2 c = c .read-word .ensures ∙ word-line (c .before .before .before .before .before .args .s .now) (c .before .before .before .before .before .args .a) (c .before .before .before .before .before .args .b) (c .before .before .before .before .before .pre .1) (sym (c .before .enum-told2 .given .1) ∙ c .before .before .before .kind-of .ensures)
 
 -- src/kind.rt:121:1
 returns-3 : tie.Need-returns-3
-returns-3 c = saying-not (slice (c .before .before .before .before .args .a) (c .before .before .before .before .args .b) (c .before .before .before .before .args .s .now)) _ (sym (c .enum-told3 .given .1) ∙ c .before .before .kind-of .ensures)
+returns-3 c = word-no-line (slice (c .before .before .before .before .args .a) (c .before .before .before .before .args .b) (c .before .before .before .before .args .s .now)) _ (sym (c .enum-told3 .given .1) ∙ c .before .before .kind-of .ensures)
 
 -- src/kind.rt:121:1
 returns-4 : tie.Need-returns-4
-returns-4 c = saying-not (slice (c .before .before .before .before .args .a) (c .before .before .before .before .args .b) (c .before .before .before .before .args .s .now)) _ (sym (c .enum-told4 .given .1) ∙ c .before .before .kind-of .ensures)
+returns-4 c = word-no-line (slice (c .before .before .before .before .args .a) (c .before .before .before .before .args .b) (c .before .before .before .before .args .s .now)) _ (sym (c .enum-told4 .given .1) ∙ c .before .before .kind-of .ensures)
 
 pub word-of-spec : {M : Type 1} → statement M
 word-of-spec =

@@ -1,8 +1,5 @@
-use borrow.Author.Needs.{needs}
 use Rattle.cells.proofs.number.is_digit.Statement.{statement}
 use Rattle.cells.proofs.number.is_digit.Tie as tie
-use Rattle.cells.proofs.number.is_digit.Reads as reads
-use Rattle.cells.proofs.number.is_digit.Lts as lts
 use Rattle.cells.proofs.Numbers.{digit-in, digit-under, digit-over}
 
 -- src/number.rt:19:1

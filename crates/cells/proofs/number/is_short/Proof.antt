@@ -1,8 +1,6 @@
 use borrow.Author.Needs.{needs}
 use Rattle.cells.proofs.number.is_short.Statement.{statement}
 use Rattle.cells.proofs.number.is_short.Tie as tie
-use Rattle.cells.proofs.number.is_short.Reads as reads
-use Rattle.cells.proofs.number.is_short.Lts as lts
 use Rattle.cells.proofs.Numbers.{short-long, short-none, short-one, short-more}
 
 -- src/number.rt:63:8

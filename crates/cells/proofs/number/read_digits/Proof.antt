@@ -1,10 +1,6 @@
 use borrow.Author.Needs.{needs}
 use Rattle.cells.proofs.number.read_digits.Statement.{statement}
 use Rattle.cells.proofs.number.read_digits.Tie as tie
-use Rattle.cells.proofs.number.read_digits.Reads as reads
-use Rattle.cells.proofs.number.read_digits.Lts as lts
-use Rattle.cells.proofs.number.is_digit.Reads as is-digit-reads
-use Rattle.cells.proofs.number.signed.Reads as signed-reads
 use native.Mathlib.Omega.{arith}
 use Rattle.lists.proofs.Bool.{said-no, said-yes}
 use Rattle.cells.proofs.Numbers.{Digits, digits-first, digits-few, digits-out, digits-more, digits-done, digit-range}

@@ -1,9 +1,6 @@
 use borrow.Author.Needs.{needs}
 use Rattle.cells.proofs.number.read_number.Statement.{statement}
 use Rattle.cells.proofs.number.read_number.Tie as tie
-use Rattle.cells.proofs.number.read_number.Reads as reads
-use Rattle.cells.proofs.number.read_number.Lts as lts
-use Rattle.cells.proofs.number.read_numeral.Reads as read-numeral-reads
 use Rattle.cells.proofs.Numbers.{number-none, number-minus, number-plain}
 use mathlib.Core.Path.{_∙_}
 use Rattle.lists.proofs.Order.{ne-lt-one}

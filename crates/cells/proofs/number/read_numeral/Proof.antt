@@ -1,10 +1,6 @@
 use borrow.Author.Needs.{needs}
 use Rattle.cells.proofs.number.read_numeral.Statement.{statement}
 use Rattle.cells.proofs.number.read_numeral.Tie as tie
-use Rattle.cells.proofs.number.read_numeral.Reads as reads
-use Rattle.cells.proofs.number.read_numeral.Lts as lts
-use Rattle.cells.proofs.number.is_short.Reads as is-short-reads
-use Rattle.cells.proofs.number.read_digits.Reads as read-digits-reads
 use Rattle.lists.proofs.Bool.{said-no, said-yes}
 use Rattle.cells.proofs.Numbers.{numeral-not, numeral-digits, short-fits}
 use mathlib.Core.Path.{_∙_}

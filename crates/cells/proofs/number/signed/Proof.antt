@@ -1,8 +1,5 @@
-use borrow.Author.Needs.{needs}
 use Rattle.cells.proofs.number.signed.Statement.{statement}
 use Rattle.cells.proofs.number.signed.Tie as tie
-use Rattle.cells.proofs.number.signed.Reads as reads
-use Rattle.cells.proofs.number.signed.Lts as lts
 use Rattle.cells.proofs.Numbers.{sign-true, sign-zero, sign-false}
 
 -- src/number.rt:33:9
