@@ -32,6 +32,7 @@ use Rattle.listing.proofs.Walked.{walked-is}
 use Rattle.listing.proofs.Fits.{walked-fits}
 use Rattle.questions.specs.Questions.{Verdict, accepted, accepting, namesOf, enoughTree, byNumber, byVerdict, asked, turnedDown, taken}
 use Rattle.questions.specs.Questions.{Answer as Outcome}
+use Rattle.questions.proofs.Asked.{asked-accepted}
 use Rattle.answer.specs.Calls.{enoughValues, enoughListing, met15, answered, questionsTaking, taking, valuesAfter, own, lent14, lent, questionsListing, listingOf, shown, showing, textAfter}
 use Rattle.answer.specs.Demand3.{AcceptedAs, OwnTree, SaysSatisfiable, SetsAndSatisfies, Takes, Lists, Demand3Whole}
 use Rattle.answer.proofs.Questions.{FiveMet, five-met, five-of, lent-all, lent-met}
@@ -45,7 +46,7 @@ never e = let z : _≡_ {A = ℕ} 0 1 = cc in absurd (omega arith)
 
 module _ (file : List ℕ) (T : Table) (a : accepting file ≡ accepted T) (more : Table → List (ℕ × Bool)) where
   pub all-asked : {A : Type 0} (refuse : ℕ → A) (succeed : Table → A) {b : Bool} → b ≡ true → firstUnmet (more T) ≡ 0 → asked b file more refuse succeed ≡ succeed T
-  all-asked refuse succeed e z = rw (e, a, z)
+  all-asked refuse succeed e z = asked-accepted file more refuse succeed a e ∙ rw z
 
   -- what was taken was lent enough, and met every question
   pub was-taken : (f : Table → List ℕ) (b : Bool) {ns : List ℕ} → asked b file more turnedDown (λ T. taken (f T)) ≡ taken ns → (b ≡ true) × (firstUnmet (more T) ≡ 0)

@@ -1,17 +1,15 @@
 -- Laws, by topic.
--- questions met and not met
+-- document 01's example through the calls
+pub mod Computed
+-- questions met and not met; what an accepted file's table and names are like; values as bits
 pub mod Questions
--- what an accepted file's table and names are like
 pub mod Acceptance
--- values as bits
 pub mod Bits
--- the calls, part by part
+-- the calls, part by part and whole
 pub mod Taking
 pub mod Lending
 pub mod Showing
--- the calls
-pub mod Answers
--- the loops' invariants
 pub mod Loops
+pub mod Outcomes
 -- demand 3
 pub mod Demand3

@@ -9,8 +9,7 @@ use lib.Dec.{leb}
 use lib.ListN.{length, getD, take, drop, set, drop-of-length-le}
 use lib.Seq.{drop-cons}
 use Rattle.lists.specs.List.{all}
-use Rattle.lists.proofs.Bool.{leb-in}
-use Rattle.questions.proofs.Preparing.{leb-no}
+use Rattle.lists.proofs.Bool.{leb-in, leb-no}
 
 -- 0 and 1 --------------------------------------------------------------------------------------------------------------------------
 module _ (vs : List ℕ) where

@@ -9,7 +9,7 @@ use lib.Dec.{leb}
 use lib.ListN.{length, drop}
 use Rattle.lists.specs.Question.{firstUnmet}
 use Rattle.lists.specs.Written.{Wrote}
-use Rattle.lists.proofs.Bool.{leb-in, and-off}
+use Rattle.lists.proofs.Bool.{leb-in, and-off, leb-no}
 use Rattle.lists.proofs.Written.{wrote-whole}
 use Rattle.planning.specs.Table.{Table}
 use Rattle.planning.specs.Place.{rootPlace, nodes}
@@ -27,7 +27,6 @@ use Rattle.encoding.specs.declared.Text.the-variants.{Refused, Written}
 use Rattle.questions.specs.Questions.{enoughTree, byNumber, asked, turnedDown, taken}
 use Rattle.questions.specs.Parts.{IsPrepared, Placed}
 use Rattle.questions.specs.declared.Prepared.{Prepared}
-use Rattle.questions.proofs.Preparing.{leb-no}
 use Rattle.questions.proofs.Asked.{asked-short, asked-unmet, asked-met}
 
 -- Questions 10 and 11 ----------------------------------------------------------------------------------------------------------

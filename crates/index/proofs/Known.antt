@@ -10,7 +10,7 @@ use lib.ListN.{length, getD, take, drop, length-append, length-map, List·getD-a
 use lib.Seq.{getD-append-add}
 use Rattle.lists.specs.List.{concatMap, number, upTo, Every, Rising}
 use Rattle.lists.proofs.Number.{length-from}
-use Rattle.lists.proofs.Place.{getD-map-from}
+use Rattle.lists.proofs.Place.{getD-map-from, one-word}
 use Rattle.bitset.specs.Set.{members, setOf}
 use Rattle.bitset.proofs.Promises.{promises}
 use Rattle.planning.specs.Table.{Table}
@@ -30,11 +30,6 @@ pub past-last : (ws : List ℕ) (i : ℕ) → length ws ≤ i → 0 ≡ getD ws 
 past-last ws i h = sym (List·getD-eq-default ws 0 h)
 
 -- Sets in a word ---------------------------------------------------------------------------------------------------------------
-pub one-word : (l : List ℕ) → length l ≡ 1 → getD l 0 0 ∷ [] ≡ l
-one-word [] h = absurd (omega arith)
-one-word (w ∷ []) h = refl
-one-word (w ∷ v ∷ l) h = absurd (omega arith)
-
 pub set-length : (xs : List ℕ) → length (setOf 1 xs) ≡ 1
 set-length [] = refl
 set-length (x ∷ xs) = promises .insert-length (setOf 1 xs) x ∙ set-length xs

@@ -1,12 +1,11 @@
 -- Laws, by topic.
 -- small tables computed
 pub mod Computed
--- the rows node by node: for a model's values they are the tree's; from values as they are lent; how many and how long they are
+-- the rows node by node: for a model's values they are the tree's; how many and how long they are
 pub mod Walked
 pub mod Lines
 pub mod Chosen
 pub mod Rows
-pub mod Lent
 pub mod Fits
 -- what the code looks up and writes
 pub mod Sought

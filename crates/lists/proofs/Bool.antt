@@ -118,3 +118,6 @@ module _ {A : Type 0} where
 
   pub none≢some : {B : Type 0} {a : A} → _≡_ {A = Option A} none (some a) → B
   none≢some e = let z : _≡_ {A = ℕ} 0 1 = cc in absurd (omega arith)
+
+pub leb-no : (m n : ℕ) → n < m → leb m n ≡ false
+leb-no m n h = false-of (leb m n) (λ e. absurd (omega (arith, leb-sound m n e)))

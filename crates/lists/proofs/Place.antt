@@ -90,3 +90,9 @@ filter-enough p m n h f =
     let z : 0 + n ≡ n = omega arith in
     ap (λ (k : ℕ). filter p (upTo k)) e ∙ ap (filter p) (from-add 0 n (m - n)) ∙ filter-append p (upTo n) (from (0 + n) (m - n))
     ∙ ap (λ (l : List ℕ). filter p (upTo n) ++ l) (ap (λ (k : ℕ). filter p (from k (m - n))) z ∙ filter-none p n (m - n) f) ∙ append-nil (filter p (upTo n))
+
+-- a list of one member
+pub one-word : (l : List ℕ) → length l ≡ 1 → getD l 0 0 ∷ [] ≡ l
+one-word [] h = absurd (omega arith)
+one-word (w ∷ []) h = refl
+one-word (w ∷ v ∷ l) h = absurd (omega arith)

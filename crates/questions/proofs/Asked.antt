@@ -6,7 +6,7 @@ use mathlib.Core.List.{List}
 use Prim.Native.Nat.{ℕ, zero, suc}
 use Rattle.lists.specs.Question.{firstUnmet}
 use Rattle.planning.specs.Table.{Table}
-use Rattle.questions.specs.Questions.{Verdict, ifMet, byNumber, byVerdict, asked}
+use Rattle.questions.specs.Questions.{Verdict, accepted, ifMet, accepting, byNumber, byVerdict, asked}
 use Rattle.questions.specs.Parts.{IsPrepared}
 use Rattle.questions.specs.declared.Prepared.{Prepared}
 
@@ -14,6 +14,10 @@ module _ {A : Type 0} (file : List ℕ) (more : Table → List (ℕ × Bool)) (r
   -- a buffer is too short
   pub asked-short : {b : Bool} → b ≡ false → asked b file more refuse succeed ≡ refuse 1
   asked-short e = rw e
+
+  -- a file that is accepted
+  pub asked-accepted : {T : Table} → accepting file ≡ accepted T → {b : Bool} → b ≡ true → asked b file more refuse succeed ≡ byNumber (firstUnmet (more T)) refuse (succeed T)
+  asked-accepted a e = rw (e, a)
 
   module _ {T : Table} {p : Prepared} (prepared : IsPrepared file T p) {b : Bool} (enough : b ≡ true) where
     -- one of 2 to 9 is not met

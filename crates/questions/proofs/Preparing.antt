@@ -10,7 +10,7 @@ use native.Mathlib.Omega.{arith}
 use lib.Dec.{leb}
 use lib.ListN.{length}
 use Rattle.lists.specs.Question.{firstUnmet}
-use Rattle.lists.proofs.Bool.{bool-cases, leb-sound, leb-in}
+use Rattle.lists.proofs.Bool.{bool-cases, leb-sound, leb-in, leb-no}
 use Rattle.planning.specs.Table.{Table, Sound, Limits}
 use Rattle.planning.specs.Place.{rootPlace, nodes}
 use Rattle.planning.specs.Variable.{variables, nodeVars, slots}
@@ -25,13 +25,6 @@ use Rattle.questions.specs.Questions.{met8, met9, Verdict, unmet, accept
 use Rattle.questions.specs.Parts.{Measured, IsPrepared}
 use Rattle.questions.specs.declared.Measure.{Measure}
 use Rattle.questions.specs.declared.Prepared.{Prepared}
-
-pub leb-no : (m n : ℕ) → n < m → leb m n ≡ false
-leb-no m n h = go (bool-cases (leb m n))
-  where
-    go : (leb m n ≡ true) ⊎ (leb m n ≡ false) → leb m n ≡ false
-    go (inl e) = absurd (omega (arith, leb-sound m n e))
-    go (inr e) = e
 
 -- Questions 8 and 9 ------------------------------------------------------------------------------------------------------------
 module _ (T : Table) {c : Count} (counted : Counted T c) where

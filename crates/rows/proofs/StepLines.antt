@@ -12,6 +12,7 @@ use lib.Seq.{getD-set-same, getD-set-other, drop-cons, drop-length}
 use Rattle.lists.specs.List.{all}
 use Rattle.lists.proofs.Bool.{and-on, and-assoc}
 use Rattle.lists.proofs.Order.{le-or-lt}
+use Rattle.lists.proofs.Place.{one-word}
 use Rattle.lines.specs.Parts.{Piece, noLine}
 use Rattle.grammar.specs.Name.{Name}
 use Rattle.rows.specs.Uses.{usesFacts}
@@ -50,11 +51,6 @@ pub record Stepping (fs : List Name) (ls : List Piece) (ok : Bool) (xs ys zs : L
 
 pub stepping-first : (fs : List Name) (ls : List Piece) {xs ys zs : List ℕ} → length xs ≡ 64 → length ys ≡ 64 → length zs ≡ 64 → Stepping fs ls true xs ys zs 0
 stepping-first fs ls a b c = record { telling = telling-first (uses fs) ls; wide = (a, b, c); at = λ j h. absurd (omega arith) }
-
-one-word : (x : List ℕ) → length x ≡ 1 → getD x 0 0 ∷ [] ≡ x
-one-word [] e = absurd (omega (arith, e))
-one-word (w ∷ []) e = refl
-one-word (w ∷ v ∷ x) e = absurd (omega (arith, e))
 
 module _ {fs : List Name} {ls : List Piece} {ok : Bool} {xs ys zs : List ℕ} {i : ℕ} (u : Stepping fs ls ok xs ys zs i) (h : i < length ls) (g : i < 64) where
   pub stepping-more : (l : Piece) (t r : Bool) (x y z : List ℕ) → l ≡ getD ls i noLine → StepMeans fs (l .bytes) t x y z → r ≡ (ok && t)

@@ -8,6 +8,7 @@ use native.Mathlib.Omega.{arith}
 use lib.ListN.{length, getD, set, length-set}
 use lib.Seq.{getD-set-same, getD-set-other}
 use Rattle.lists.proofs.Order.{le-or-lt}
+use Rattle.lists.proofs.Place.{one-word}
 use Rattle.bitset.specs.Set.{members}
 use Rattle.planning.specs.Table.{Step, Table, stepOf}
 use Rattle.sheet.specs.Sheet.{stepIn, sheetSize}
@@ -28,11 +29,6 @@ pub store-stands : (o o′ : List ℕ) (n p v : ℕ) → p < length o → p < n 
 store-stands o o′ n p v h l k = k p l ∙ getD-set-same o p v 0 h
 
 -- a set of one word
-one-word : (a : List ℕ) → length a ≡ 1 → members (getD a 0 0 ∷ []) ≡ members a
-one-word [] e = absurd (omega arith)
-one-word (w ∷ []) e = refl
-one-word (w ∷ v ∷ a) e = absurd (omega arith)
-
 -- Loops that put one thing after the other -------------------------------------------------------------------------------------
 -- the first k of n things are put: P says what that means
 pub record Putting (P : ℕ → List ℕ → List ℕ → Type 0) (n : ℕ) (o o′ : List ℕ) (k : ℕ) : Type 0 where
@@ -61,7 +57,7 @@ module _ (T : Table) {a b c d e f : ℕ} (w : List ℕ) (ea : a ≡ T .facts) (e
   counts-put (x ∷ x₁ ∷ x₂ ∷ x₃ ∷ []) h = absurd (omega arith)
   counts-put (x ∷ x₁ ∷ x₂ ∷ x₃ ∷ x₄ ∷ []) h = absurd (omega arith)
   counts-put (x ∷ x₁ ∷ x₂ ∷ x₃ ∷ x₄ ∷ x₅ ∷ []) h = absurd (omega arith)
-  counts-put (x ∷ x₁ ∷ x₂ ∷ x₃ ∷ x₄ ∷ x₅ ∷ x₆ ∷ o) h = record { facts = ea; steps = eb; jobs = ec; methods = ed; root = ee; depth = ef; start = one-word w one ∙ ew }
+  counts-put (x ∷ x₁ ∷ x₂ ∷ x₃ ∷ x₄ ∷ x₅ ∷ x₆ ∷ o) h = record { facts = ea; steps = eb; jobs = ec; methods = ed; root = ee; depth = ef; start = ap members (one-word w one) ∙ ew }
 
 -- The steps ------------------------------------------------------------------------------------------------------------------
 step-is : (o : List ℕ) (s : ℕ) (x : Step) → members (getD o (7 + 3 * s) 0 ∷ []) ≡ x .needs → members (getD o (8 + 3 * s) 0 ∷ []) ≡ x .sets
@@ -92,9 +88,9 @@ module _ (T : Table) (s : ℕ) (o a b c : List ℕ) (h : s < 64) (l : sheetSize 
       record {
         kept = kept-both (7 + 3 * s) (8 + 3 * s) o o₁ o₃ (omega arith) (kept-store (7 + 3 * s) o (7 + 3 * s) (getD a 0 0) (omega arith)) k₁;
         step = step-is o₃ s (stepOf T s)
-            (ap (λ (w : ℕ). members (w ∷ [])) (store-stands o o₃ (8 + 3 * s) (7 + 3 * s) (getD a 0 0) (omega arith) (omega arith) k₁) ∙ one-word a la ∙ p)
-            (ap (λ (w : ℕ). members (w ∷ [])) (store-stands o₁ o₃ (9 + 3 * s) (8 + 3 * s) (getD b 0 0) (omega arith) (omega arith) k₂) ∙ one-word b lb ∙ q)
-            (ap (λ (w : ℕ). members (w ∷ [])) (store-stands o₂ o₃ (10 + 3 * s) (9 + 3 * s) (getD c 0 0) (omega arith) (omega arith) k₃) ∙ one-word c lc ∙ r);
+            (ap (λ (w : ℕ). members (w ∷ [])) (store-stands o o₃ (8 + 3 * s) (7 + 3 * s) (getD a 0 0) (omega arith) (omega arith) k₁) ∙ ap members (one-word a la) ∙ p)
+            (ap (λ (w : ℕ). members (w ∷ [])) (store-stands o₁ o₃ (9 + 3 * s) (8 + 3 * s) (getD b 0 0) (omega arith) (omega arith) k₂) ∙ ap members (one-word b lb) ∙ q)
+            (ap (λ (w : ℕ). members (w ∷ [])) (store-stands o₂ o₃ (10 + 3 * s) (9 + 3 * s) (getD c 0 0) (omega arith) (omega arith) k₃) ∙ ap members (one-word c lc) ∙ r);
       }
 
 -- one step after the other

@@ -10,7 +10,7 @@ use lib.Dec.{leb}
 use lib.ListN.{length, drop, length-append}
 use Rattle.lists.specs.List.{concat, concatMap}
 use Rattle.lists.specs.Written.{Wrote}
-use Rattle.lists.proofs.Bool.{bool-cases, clash, leb-sound, leb-in}
+use Rattle.lists.proofs.Bool.{bool-cases, clash, leb-sound, leb-in, leb-no}
 use Rattle.lists.proofs.Every.{concat-append}
 use Rattle.lists.proofs.Order.{le-or-lt}
 use Rattle.lists.proofs.Written.{wrote-none, wrote-append, wrote-same, wrote-length}
@@ -57,13 +57,6 @@ lines-found T j c f = text-left T j (posOf c) (record { rest = f .same })
 -- Lines that fit ---------------------------------------------------------------------------------------------------------------
 pub fits : (l : List ℕ) (ls : List (List ℕ)) (n : ℕ) → length l ≤ n → fitting n (l ∷ ls) ≡ l ∷ fitting (n - length l) ls
 fits l ls n h = rw (leb-in (length l) n h)
-
-leb-no : (m n : ℕ) → n < m → leb m n ≡ false
-leb-no m n h = go (bool-cases (leb m n))
-  where
-    go : (leb m n ≡ true) ⊎ (leb m n ≡ false) → leb m n ≡ false
-    go (inl e) = absurd (omega (arith, leb-sound m n e))
-    go (inr e) = e
 
 pub fits-not : (l : List ℕ) (ls : List (List ℕ)) (n : ℕ) → n < length l → fitting n (l ∷ ls) ≡ []
 fits-not l ls n h = rw (leb-no (length l) n h)

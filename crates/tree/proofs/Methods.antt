@@ -15,7 +15,7 @@ use Rattle.lists.proofs.Bool.{bool-cases, clash, false-of, or-off, and-on, and-
 use Rattle.lists.proofs.Every.{every-getD}
 use Rattle.lists.proofs.Member.{any-out, any-append, filter-same, in-filter-out, has-not}
 use Rattle.lists.proofs.Number.{upTo-range, length-from}
-use Rattle.lists.proofs.Place.{from-add, filter-append, filter-enough}
+use Rattle.lists.proofs.Place.{from-add, filter-append, filter-enough, one-word}
 use Rattle.lists.proofs.Rising.{rising-range, rising-filter}
 use Rattle.bitset.specs.Set.{contains, membersBelow, members, inserted}
 use Rattle.bitset.proofs.Promises.{promises}
@@ -88,11 +88,6 @@ named-next T js i m t =
     go : (b : Bool) → any (λ k. is (getElem? (bodyOf T k) i) t) (consIf b m []) ≡ (b && is (getElem? (bodyOf T m) i) t)
     go true = or-off (is (getElem? (bodyOf T m) i) t)
     go false = refl
-
-pub one-word : (l : List ℕ) → length l ≡ 1 → getD l 0 0 ∷ [] ≡ l
-one-word [] h = absurd (omega arith)
-one-word (w ∷ []) h = refl
-one-word (w ∷ v ∷ l) h = absurd (omega arith)
 
 -- a word with one member more
 insert-word : (w i x : ℕ) → i < 64 → contains (getD (inserted (w ∷ []) i) 0 0 ∷ []) x ≡ (contains (w ∷ []) x || eqb x i)

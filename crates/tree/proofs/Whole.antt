@@ -11,6 +11,7 @@ use lib.ListN.{length, getD, length-append}
 use Rattle.lists.specs.List.{Rising}
 use Rattle.lists.specs.Written.{Wrote}
 use Rattle.lists.proofs.Rising.{rising-filter}
+use Rattle.lists.proofs.Place.{one-word}
 use Rattle.bitset.specs.Set.{members, inserted, setOf}
 use Rattle.bitset.proofs.Promises.{promises}
 use Rattle.planning.specs.Table.{Table, step, job}
@@ -21,7 +22,6 @@ use Rattle.tree.specs.Words.{treeWords}
 use Rattle.tree.specs.Visit.{membersIn, labelIn, someIn, Inside, Known, slotsOf, slotsOfEach, Small, Visited, VisitedPart, VisitedTree, noCount, Counted}
 use Rattle.tree.specs.declared.Label.{Label}
 use Rattle.tree.specs.declared.Count.{Count}
-use Rattle.tree.proofs.Methods.{one-word}
 
 -- Sets in a word ---------------------------------------------------------------------------------------------------------------
 -- the word of its members

@@ -6,7 +6,7 @@ use Rattle.answer.proofs.list_procedure.Lts as lts
 use Rattle.answer.proofs.list_lines.Reads as list-lines-reads
 use Rattle.questions.proofs.prepare.Reads as prepare-reads
 use lib.Dec.{lit≤}
-use Rattle.answer.proofs.Answers.{list-short, list-short-tree, list-short-values, list-short-text, list-unmet, list-met}
+use Rattle.answer.proofs.Outcomes.{list-short, list-short-tree, list-short-values, list-short-text, list-unmet, list-met}
 
 -- src/lib.rt:120:9
 returns : tie.Need-returns

@@ -6,7 +6,7 @@ use Rattle.answer.proofs.take_answer.Lts as lts
 use Rattle.answer.proofs.take_values.Reads as take-values-reads
 use Rattle.questions.proofs.prepare.Reads as prepare-reads
 use lib.Dec.{lit≤}
-use Rattle.answer.proofs.Answers.{take-short, take-short-tree, take-short-values, take-unmet, take-met}
+use Rattle.answer.proofs.Outcomes.{take-short, take-short-tree, take-short-values, take-unmet, take-met}
 
 -- src/lib.rt:64:9
 returns : tie.Need-returns

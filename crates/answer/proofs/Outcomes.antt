@@ -5,14 +5,13 @@ use mathlib.Core.Bool.{Bool, true, false, _&&_}
 use mathlib.Core.List.{List, [], _∷_, _++_}
 use Prim.Native.Nat.{ℕ, _≤_, _<_}
 use lib.ListN.{length, drop}
-use Rattle.lists.proofs.Bool.{leb-in, and-off}
+use Rattle.lists.proofs.Bool.{leb-in, and-off, leb-no}
 use Rattle.planning.specs.Table.{Table}
 use Rattle.planning.specs.Variable.{variables}
 use Rattle.solver.specs.Questions.{bits}
 use Rattle.questions.specs.Questions.{enoughTree, turnedDown, taken}
 use Rattle.questions.specs.Parts.{IsPrepared}
 use Rattle.questions.specs.declared.Prepared.{Prepared}
-use Rattle.questions.proofs.Preparing.{leb-no}
 use Rattle.questions.proofs.Asked.{asked-short, asked-unmet, asked-met}
 use Rattle.answer.specs.Calls.{enoughValues, enoughListing, takenFrom, answered, questionsTaking, taking, valuesAfter, listedFrom, questionsListing, shown, showing, textAfter}
 use Rattle.answer.specs.Parts.{Took, Showed}

@@ -1,0 +1,118 @@
+-- Document 01's example through both calls, and an answer for each question that turns one down.
+-- By computing, for every tree that is the table's own and every buffer that is long enough.
+use mathlib.Core.Path.{_≡_, refl, ap, ap₂, _∙_}
+use mathlib.Core.Bool.{Bool, true, _&&_}
+use mathlib.Core.List.{List, [], _∷_, _++_}
+use Prim.Native.Nat.{ℕ}
+use lib.ListN.{length, drop}
+use Rattle.lists.specs.Text.{bytes}
+use Rattle.planning.specs.Place.{place, childLabel, childCount}
+use Rattle.planning.specs.Model.{given}
+use Rattle.planning.specs.Marked.{shown as shownTable}
+use Rattle.lines.specs.Bytes.{digit, sameBytes}
+use Rattle.lines.specs.Parts.{split, ended}
+use Rattle.table.specs.Reading.{NameParts, Reading, passed, reading}
+use Rattle.table.proofs.Computed.{marked-files}
+use Rattle.tree.specs.Words.{met10}
+use Rattle.solver.specs.File.{answerOf}
+use Rattle.listing.specs.Listing.{Names, namesAt}
+use Rattle.questions.specs.Questions.{accepted, accepting, afterReading, enoughTree, turnedDown, taken}
+use Rattle.answer.specs.Calls.{enoughValues, enoughListing, taking, valuesAfter, lent, listingOf, showing, textAfter}
+
+abbrev example : List ℕ
+example = bytes "F\topen\nS\tlift\t-\topen\t-\nT\tserve\nM\tserve\tlift\nI\t-\nR\tserve\t1\n"
+
+abbrev names : NameParts
+names = marked-files .shown-file .names
+
+example-read : reading example ≡ passed shownTable names
+example-read = marked-files .shown-file .read
+
+example-accepted : accepting example ≡ accepted shownTable
+unfolding place childLabel childCount
+example-accepted = ap afterReading example-read
+
+-- `s SATISFIABLE`, and then this
+abbrev after : List ℕ → List ℕ
+after bs = bytes "s SATISFIABLE\n" ++ bs
+
+module _ (tree values : List ℕ) (own : met10 shownTable tree ≡ true) (enough : (enoughTree tree && enoughValues values) ≡ true) where
+  -- "`s SATISFIABLE` and `v 1 2 3 -4 5 0`"
+  pub example-taken : (taking example tree (after (bytes "v 1 2 3 -4 5 0\n")) values ≡ taken (5 ∷ [])) × (valuesAfter example tree (after (bytes "v 1 2 3 -4 5 0\n")) values ≡ 1 ∷ 1 ∷ 1 ∷ 0 ∷ 1 ∷ drop 5 values)
+  unfolding place childLabel childCount answerOf ended split sameBytes digit
+  example-taken = (
+    rw (enough, example-read, own),
+    rw (enough, example-read, own),
+  )
+
+  -- the 0 stands twice
+  pub two-zeros : (taking example tree (after (bytes "v 1 2 3 -4 5 0\nv 0\n")) values ≡ turnedDown 12) × (valuesAfter example tree (after (bytes "v 1 2 3 -4 5 0\nv 0\n")) values ≡ values)
+  unfolding place childLabel childCount answerOf ended split sameBytes digit
+  two-zeros = (
+    rw (enough, example-read, own),
+    rw (enough, example-read, own),
+  )
+
+  -- UNKNOWN
+  pub unknown-word : (taking example tree (bytes "s UNKNOWN\n") values ≡ turnedDown 13) × (valuesAfter example tree (bytes "s UNKNOWN\n") values ≡ values)
+  unfolding place childLabel childCount answerOf ended split sameBytes digit
+  unknown-word = (
+    rw (enough, example-read, own),
+    rw (enough, example-read, own),
+  )
+
+  -- variable 5 does not stand
+  pub missing : (taking example tree (after (bytes "v 1 2 3 -4 0\n")) values ≡ turnedDown 14) × (valuesAfter example tree (after (bytes "v 1 2 3 -4 0\n")) values ≡ values)
+  unfolding place childLabel childCount answerOf ended split sameBytes digit
+  missing = (
+    rw (enough, example-read, own),
+    rw (enough, example-read, own),
+  )
+
+  -- variable 5 stands twice
+  pub twice : (taking example tree (after (bytes "v 1 2 3 -4 5 5 0\n")) values ≡ turnedDown 14) × (valuesAfter example tree (after (bytes "v 1 2 3 -4 5 5 0\n")) values ≡ values)
+  unfolding place childLabel childCount answerOf ended split sameBytes digit
+  twice = (
+    rw (enough, example-read, own),
+    rw (enough, example-read, own),
+  )
+
+  -- open is not true at the start
+  pub unmet-clause : (taking example tree (after (bytes "v 1 2 3 4 5 0\n")) values ≡ turnedDown 15) × (valuesAfter example tree (after (bytes "v 1 2 3 4 5 0\n")) values ≡ values)
+  unfolding place childLabel childCount answerOf ended split sameBytes digit
+  unmet-clause = (
+    rw (enough, example-read, own),
+    rw (enough, example-read, own),
+  )
+
+example-names : namesAt example names ≡ record { steps = bytes "lift" ∷ []; jobs = bytes "serve" ∷ [] }
+example-names = ap₂ (λ (s j : List (List ℕ)). record { steps = s; jobs = j }) (marked-files .shown-file .step-names) (marked-files .shown-file .job-names)
+
+module _ (tree more text : List ℕ) (own : met10 shownTable tree ≡ true) where
+  -- "program `procedure` writes two lines: `J`, 0, `serve`, 0; then `S`, 1, `lift`; tabs between"
+  pub example-listed : (enoughTree tree && (enoughValues (1 ∷ 1 ∷ 1 ∷ 0 ∷ 1 ∷ more) && enoughListing text)) ≡ true
+      → (showing example tree (1 ∷ 1 ∷ 1 ∷ 0 ∷ 1 ∷ more) text ≡ taken (21 ∷ [])) × (textAfter example tree (1 ∷ 1 ∷ 1 ∷ 0 ∷ 1 ∷ more) text ≡ bytes "J\t0\tserve\t0\nS\t1\tlift\n" ++ drop 21 text)
+  unfolding place childLabel childCount answerOf ended split sameBytes digit
+  example-listed enough = (
+    rw (enough, example-read, own) (ap (λ (N : Names). taken (length (listingOf N (given shownTable (lent shownTable (1 ∷ 1 ∷ 1 ∷ 0 ∷ 1 ∷ more)))) ∷ [])) example-names),
+    rw (enough, example-read, own)
+    (ap (λ (N : Names). let l = listingOf N (given shownTable (lent shownTable (1 ∷ 1 ∷ 1 ∷ 0 ∷ 1 ∷ more))) in l ++ drop (length l) text) example-names),
+  )
+
+  -- a value of 2
+  pub two-lent : (enoughTree tree && (enoughValues (2 ∷ 1 ∷ 1 ∷ 0 ∷ 1 ∷ more) && enoughListing text)) ≡ true
+      → (showing example tree (2 ∷ 1 ∷ 1 ∷ 0 ∷ 1 ∷ more) text ≡ turnedDown 14) × (textAfter example tree (2 ∷ 1 ∷ 1 ∷ 0 ∷ 1 ∷ more) text ≡ text)
+  unfolding place childLabel childCount answerOf ended split sameBytes digit
+  two-lent enough = (
+    rw (enough, example-read, own),
+    rw (enough, example-read, own),
+  )
+
+  -- open is not true at the start
+  pub no-model-lent : (enoughTree tree && (enoughValues (1 ∷ 1 ∷ 1 ∷ 1 ∷ 1 ∷ more) && enoughListing text)) ≡ true
+      → (showing example tree (1 ∷ 1 ∷ 1 ∷ 1 ∷ 1 ∷ more) text ≡ turnedDown 15) × (textAfter example tree (1 ∷ 1 ∷ 1 ∷ 1 ∷ 1 ∷ more) text ≡ text)
+  unfolding place childLabel childCount answerOf ended split sameBytes digit
+  no-model-lent enough = (
+    rw (enough, example-read, own),
+    rw (enough, example-read, own),
+  )
