@@ -15,6 +15,7 @@ use Rattle.lists.proofs.Written.{wrote-room}
 use Rattle.sheet.specs.Sheet.{tableIn}
 use Rattle.questions.proofs.Compared.{known-of, tree-end, compared, lent-front, not-placed, is-placed}
 
+
 -- src/lib.rt:86:29
 slice-aggregate-build : tie.Need-slice-aggregate-build
 slice-aggregate-build c = search needs
@@ -29,7 +30,7 @@ slice-aggregate-is-same c = search needs
 
 -- src/lib.rt:87:9
 is-same-requires : tie.Need-is-same-requires
-is-same-requires c κs = ((omega (arith, tree-end (tableIn (c .before .before .before .before .before .before .before .args .ws .now)) (c .before .before .before .before .before .before .before .pre .0) (c .before .before .build .ensures) .1, c .before .before .before .before .before .before .before .pre .1)), wrote-room (c .before .before .build .ensures))
+is-same-requires c κs = ((omega (arith, tree-end (tableIn (c .before .before .before .before .before .before .before .args .ws .now)) (c .before .before .before .before .before .before .before .pre .0) (c .before .before .build .ensures) .1, c .before .before .before .before .before .before .before .pre .1)), omega (arith, wrote-room (c .before .before .build .ensures)))
 
 -- src/lib.rt:88:9
 returns : tie.Need-returns
