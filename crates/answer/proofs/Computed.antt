@@ -96,7 +96,7 @@ module _ (tree more text : List ℕ) (own : met10 shownTable tree ≡ true) wher
   example-listed enough = (
     rw (enough, example-read, own) (ap (λ (N : Names). taken (length (listingOf N (given shownTable (lent shownTable (1 ∷ 1 ∷ 1 ∷ 0 ∷ 1 ∷ more)))) ∷ [])) example-names),
     rw (enough, example-read, own)
-    (ap (λ (N : Names). let l = listingOf N (given shownTable (lent shownTable (1 ∷ 1 ∷ 1 ∷ 0 ∷ 1 ∷ more))) in l ++ drop (length l) text) example-names),
+        (ap (λ (N : Names). let l = listingOf N (given shownTable (lent shownTable (1 ∷ 1 ∷ 1 ∷ 0 ∷ 1 ∷ more))) in l ++ drop (length l) text) example-names),
   )
 
   -- a value of 2

@@ -15,7 +15,6 @@ use Rattle.lists.proofs.Written.{wrote-room}
 use Rattle.sheet.specs.Sheet.{tableIn}
 use Rattle.questions.proofs.Compared.{known-of, tree-end, compared, lent-front, not-placed, is-placed}
 
-
 -- src/lib.rt:86:29
 slice-aggregate-build : tie.Need-slice-aggregate-build
 slice-aggregate-build c = search needs
