@@ -16,11 +16,10 @@ use Rattle.writer.specs.Literal.{codeOf, clauseIn}
 use Rattle.writer.proofs.Literals.{clause-code}
 use Rattle.places.specs.Nest.{Pos, positions}
 use Rattle.places.specs.ClausePlace.{literals, placeAt, shape}
-use Rattle.places.specs.Cursor.{after}
-use Rattle.places.proofs.Cursor.{left-behind}
 use Rattle.places.proofs.Formula.{formula-places}
 use Rattle.index.specs.Index.{source}
-use Rattle.cursor.specs.Cursor.{posOf, ofPos, leftIn, answerOf, nextOf, In, Found}
+use Rattle.cursor.specs.Cursor.{nextOf, In, Found}
+use Rattle.cursor.proofs.Handing.{handed-clause, handed-end}
 use Rattle.cursor.specs.declared.Cursor.{Cursor}
 use Rattle.cursor.specs.declared.Next.{Next}
 use Rattle.cursor.specs.declared.Next.the-variants.{Clause as NextClause, End}
@@ -32,29 +31,19 @@ codes-true v C w = ap (λ (l : List ℕ). clauseTrue v (clauseIn l)) (wrote-fron
 
 -- What the cursor hands out --------------------------------------------------------------------------------------------------------
 module _ (T : Table) (c : Cursor) where
+  abbrev clausesAt : List Pos → List Clause
+  clausesAt l = map (literals (source T)) (map (placeAt (source T)) l)
+
   next-clause : (p d : Cursor) → NextClause p d ≡ nextOf T c → clausesFrom T c ≡ clauseAt T p ∷ clausesFrom T d
-  next-clause p d e = go (leftIn T c) refl e
-    where
-      go : (l : List Pos) → leftIn T c ≡ l → NextClause p d ≡ answerOf l → clausesFrom T c ≡ clauseAt T p ∷ clausesFrom T d
-      go [] q f = let z : _≡_ {A = ℕ} 0 1 = cc in absurd (omega arith)
-      go (x ∷ xs) q f =
-          let a : p ≡ ofPos x = cc in
-          let b : d ≡ ofPos (after x) = cc in
-          let r : leftIn T d ≡ xs = ap (leftIn T) b ∙ left-behind (shape (source T)) (posOf c) x xs q in
-          ap (λ (l : List Pos). map (literals (source T)) (map (placeAt (source T)) l)) q
-          ∙ ap₂ (λ (m : Cursor) (l : List Pos). clauseAt T m ∷ map (literals (source T)) (map (placeAt (source T)) l)) (sym a) (sym r)
+  next-clause p d e = ap clausesAt (handed-clause T c p d e)
 
   next-none : End ≡ nextOf T c → clausesFrom T c ≡ []
-  next-none e = go (leftIn T c) refl e
-    where
-      go : (l : List Pos) → leftIn T c ≡ l → End ≡ answerOf l → clausesFrom T c ≡ []
-      go [] q f = ap (λ (l : List Pos). map (literals (source T)) (map (placeAt (source T)) l)) q
-      go (x ∷ xs) q f = let z : _≡_ {A = ℕ} 0 1 = cc in absurd (omega arith)
+  next-none e = ap clausesAt (handed-end T c e)
 
   -- from the first place on: the formula
   clauses-found : Found T 0 c → clausesFrom T c ≡ formula T
   clauses-found f =
-      ap (λ (l : List Pos). map (literals (source T)) (map (placeAt (source T)) l)) (f .same)
+      ap clausesAt (f .same)
       ∙ (map-map (literals (source T)) (placeAt (source T)) (positions (shape (source T))) ∙ formula-places T)
 
 -- The loop -------------------------------------------------------------------------------------------------------------------------

@@ -20,10 +20,10 @@ use Rattle.planning.specs.Text.{litText, clauseLine, fitting, lines, written, n
 use Rattle.places.specs.Nest.{Pos, at, left, positions}
 use Rattle.places.specs.ClausePlace.{literals, placeAt, shape}
 use Rattle.places.specs.Cursor.{after, linesLeft, placesLeft, Seeking}
-use Rattle.places.proofs.Cursor.{left-behind}
 use Rattle.places.proofs.Next.{text-left}
 use Rattle.index.specs.Index.{source}
 use Rattle.cursor.specs.Cursor.{posOf, ofPos, leftIn, answerOf, nextOf, In, Found}
+use Rattle.cursor.proofs.Handing.{handed-clause, handed-end}
 use Rattle.cursor.specs.declared.Cursor.{Cursor}
 use Rattle.cursor.specs.declared.Next.{Next}
 use Rattle.cursor.specs.declared.Next.the-variants.{Clause as NextClause, End}
@@ -31,24 +31,14 @@ use Rattle.text.specs.Lines.{lineAt, linesFrom, ifFits, Put}
 use Rattle.text.specs.declared.Lines.{Lines}
 
 -- What the cursor hands out --------------------------------------------------------------------------------------------------
+abbrev linesAt : Table → List Pos → List (List ℕ)
+linesAt T l = map clauseLine (map (literals (source T)) (map (placeAt (source T)) l))
+
 pub next-line : (T : Table) (c p d : Cursor) → NextClause p d ≡ nextOf T c → linesFrom T c ≡ lineAt T p ∷ linesFrom T d
-next-line T c p d e = go (leftIn T c) refl e
-  where
-    go : (l : List Pos) → leftIn T c ≡ l → NextClause p d ≡ answerOf l → linesFrom T c ≡ lineAt T p ∷ linesFrom T d
-    go [] q f = let z : _≡_ {A = ℕ} 0 1 = cc in absurd (omega arith)
-    go (x ∷ xs) q f =
-        let a : p ≡ ofPos x = cc in
-        let b : d ≡ ofPos (after x) = cc in
-        let r : leftIn T d ≡ xs = ap (leftIn T) b ∙ left-behind (shape (source T)) (posOf c) x xs q in
-        ap (λ (l : List Pos). map clauseLine (map (literals (source T)) (map (placeAt (source T)) l))) q
-        ∙ ap₂ (λ (m : Cursor) (l : List Pos). lineAt T m ∷ map clauseLine (map (literals (source T)) (map (placeAt (source T)) l))) (sym a) (sym r)
+next-line T c p d e = ap (linesAt T) (handed-clause T c p d e)
 
 pub next-none : (T : Table) (c : Cursor) → End ≡ nextOf T c → linesFrom T c ≡ []
-next-none T c e = go (leftIn T c) refl e
-  where
-    go : (l : List Pos) → leftIn T c ≡ l → End ≡ answerOf l → linesFrom T c ≡ []
-    go [] q f = ap (λ (l : List Pos). map clauseLine (map (literals (source T)) (map (placeAt (source T)) l))) q
-    go (x ∷ xs) q f = let z : _≡_ {A = ℕ} 0 1 = cc in absurd (omega arith)
+next-none T c e = ap (linesAt T) (handed-end T c e)
 
 -- the lines from a clause on, where the cursor was sought
 pub lines-found : (T : Table) (j : ℕ) (c : Cursor) → Found T j c → linesFrom T c ≡ drop (suc j) (lines T)
