@@ -21,7 +21,7 @@ use Rattle.grammar.specs.Byte.{lower, ofName}
 use Rattle.table.specs.Reading.{NameParts, Reading, refused, passed, reading}
 use Rattle.table.specs.Promises.{Promised}
 use Rattle.table.proofs.Promised.{promises}
-use Rattle.listing.specs.Listing.{namesAt, ShortNames}
+use Rattle.listing.specs.Listing.{shownNames, ShortNames}
 use Rattle.questions.specs.Questions.{met8, met9, Verdict, unmet, accepted, ifMet, afterReading, accepting, namesAfter, namesOf}
 
 -- the file was read, as this table with these names, and 8 and 9 are met
@@ -83,11 +83,11 @@ short-all : (xs : List (List ℕ)) → Every (λ (n : Name). isName n ≡ true) 
 short-all [] h = tt
 short-all (x ∷ xs) h = (name-short x (h .0), short-all xs (h .1))
 
-pub short-names : (file : List ℕ) (T : Table) → accepting file ≡ accepted T → ShortNames (namesAt file (namesOf file))
+pub short-names : (file : List ℕ) (T : Table) → accepting file ≡ accepted T → ShortNames (shownNames file (namesOf file))
 short-names file T e = rw (names-are file T e) (go ((was-read file T e) .names) (promised file T e))
   where
-    go : (ns : NameParts) → Promised file T ns → ShortNames (namesAt file ns)
+    go : (ns : NameParts) → Promised file T ns → ShortNames (shownNames file ns)
     go ns p =
-        let N = namesAt file ns in
+        let N = shownNames file ns in
         let rest = drop-l (map (bytesAt file) (ns .facts)) (N .steps ++ N .jobs) (p .formed) in
         record { steps = short-l (N .steps) (N .jobs) rest; jobs = short-all (N .jobs) (drop-l (N .steps) (N .jobs) rest) }

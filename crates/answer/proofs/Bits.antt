@@ -9,8 +9,7 @@ use lib.Dec.{eqb, leb}
 use lib.ListN.{length, length-map}
 use Rattle.lists.specs.List.{all}
 use Rattle.lists.proofs.Bool.{and-l, and-r, leb-sound}
-use Rattle.solver.specs.Questions.{bit, bits}
-use Rattle.model.specs.Clauses.{truthsIn}
+use Rattle.planning.specs.Model.{bit, bits, truthsIn}
 
 pub bits-back : (vs : List Bool) → truthsIn (bits vs) ≡ vs
 bits-back [] = refl

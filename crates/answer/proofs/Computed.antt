@@ -15,9 +15,9 @@ use Rattle.table.specs.Reading.{NameParts, Reading, passed, reading}
 use Rattle.table.proofs.Computed.{marked-files}
 use Rattle.tree.specs.Words.{met10}
 use Rattle.solver.specs.File.{answerOf}
-use Rattle.listing.specs.Listing.{Names, namesAt}
+use Rattle.listing.specs.Listing.{Names, shownNames}
 use Rattle.questions.specs.Questions.{accepted, accepting, afterReading, enoughTree, turnedDown, taken}
-use Rattle.answer.specs.Calls.{enoughValues, enoughListing, taking, valuesAfter, lent, listingOf, showing, textAfter}
+use Rattle.answer.specs.Calls.{enoughValues, enoughListing, taking, valuesAfter, lent, listingOf, showing, listingAfter}
 
 abbrev example : List ℕ
 example = bytes "F\topen\nS\tlift\t-\topen\t-\nT\tserve\nM\tserve\tlift\nI\t-\nR\tserve\t1\n"
@@ -85,13 +85,13 @@ module _ (tree values : List ℕ) (own : met10 shownTable tree ≡ true) (enough
     rw (enough, example-read, own),
   )
 
-example-names : namesAt example names ≡ record { steps = bytes "lift" ∷ []; jobs = bytes "serve" ∷ [] }
+example-names : shownNames example names ≡ record { steps = bytes "lift" ∷ []; jobs = bytes "serve" ∷ [] }
 example-names = ap₂ (λ (s j : List (List ℕ)). record { steps = s; jobs = j }) (marked-files .shown-file .step-names) (marked-files .shown-file .job-names)
 
 module _ (tree more text : List ℕ) (own : met10 shownTable tree ≡ true) where
   -- "program `procedure` writes two lines: `J`, 0, `serve`, 0; then `S`, 1, `lift`; tabs between"
   pub example-listed : (enoughTree tree && (enoughValues (1 ∷ 1 ∷ 1 ∷ 0 ∷ 1 ∷ more) && enoughListing text)) ≡ true
-      → (showing example tree (1 ∷ 1 ∷ 1 ∷ 0 ∷ 1 ∷ more) text ≡ taken (21 ∷ [])) × (textAfter example tree (1 ∷ 1 ∷ 1 ∷ 0 ∷ 1 ∷ more) text ≡ bytes "J\t0\tserve\t0\nS\t1\tlift\n" ++ drop 21 text)
+      → (showing example tree (1 ∷ 1 ∷ 1 ∷ 0 ∷ 1 ∷ more) text ≡ taken (21 ∷ [])) × (listingAfter example tree (1 ∷ 1 ∷ 1 ∷ 0 ∷ 1 ∷ more) text ≡ bytes "J\t0\tserve\t0\nS\t1\tlift\n" ++ drop 21 text)
   unfolding place childLabel childCount answerOf ended split sameBytes digit
   example-listed enough = (
     rw (enough, example-read, own) (ap (λ (N : Names). taken (length (listingOf N (given shownTable (lent shownTable (1 ∷ 1 ∷ 1 ∷ 0 ∷ 1 ∷ more)))) ∷ [])) example-names),
@@ -101,7 +101,7 @@ module _ (tree more text : List ℕ) (own : met10 shownTable tree ≡ true) wher
 
   -- a value of 2
   pub two-lent : (enoughTree tree && (enoughValues (2 ∷ 1 ∷ 1 ∷ 0 ∷ 1 ∷ more) && enoughListing text)) ≡ true
-      → (showing example tree (2 ∷ 1 ∷ 1 ∷ 0 ∷ 1 ∷ more) text ≡ turnedDown 14) × (textAfter example tree (2 ∷ 1 ∷ 1 ∷ 0 ∷ 1 ∷ more) text ≡ text)
+      → (showing example tree (2 ∷ 1 ∷ 1 ∷ 0 ∷ 1 ∷ more) text ≡ turnedDown 14) × (listingAfter example tree (2 ∷ 1 ∷ 1 ∷ 0 ∷ 1 ∷ more) text ≡ text)
   unfolding place childLabel childCount answerOf ended split sameBytes digit
   two-lent enough = (
     rw (enough, example-read, own),
@@ -110,7 +110,7 @@ module _ (tree more text : List ℕ) (own : met10 shownTable tree ≡ true) wher
 
   -- open is not true at the start
   pub no-model-lent : (enoughTree tree && (enoughValues (1 ∷ 1 ∷ 1 ∷ 1 ∷ 1 ∷ more) && enoughListing text)) ≡ true
-      → (showing example tree (1 ∷ 1 ∷ 1 ∷ 1 ∷ 1 ∷ more) text ≡ turnedDown 15) × (textAfter example tree (1 ∷ 1 ∷ 1 ∷ 1 ∷ 1 ∷ more) text ≡ text)
+      → (showing example tree (1 ∷ 1 ∷ 1 ∷ 1 ∷ 1 ∷ more) text ≡ turnedDown 15) × (listingAfter example tree (1 ∷ 1 ∷ 1 ∷ 1 ∷ 1 ∷ more) text ≡ text)
   unfolding place childLabel childCount answerOf ended split sameBytes digit
   no-model-lent enough = (
     rw (enough, example-read, own),

@@ -7,34 +7,35 @@ use mathlib.Core.Logic.{_↔_}
 use mathlib.Core.Option.{Option, none, some}
 use Prim.Native.Nat.{ℕ, zero, suc, _≤_}
 use native.Mathlib.Omega.{arith}
-use lib.Dec.{leb}
-use lib.ListN.{length, take, drop}
+use lib.Dec.{eqb, leb}
+use lib.ListN.{length, getD, take, drop, length-append, length-drop, List·getD-append}
 use lib.Seq.{take-at}
-use Rattle.lists.specs.List.{all}
+use Rattle.lists.specs.List.{all, upTo}
 use Rattle.lists.specs.Question.{firstUnmet}
-use Rattle.lists.proofs.Bool.{leb-in, leb-sound, and-in, and-l, and-r, clash}
+use Rattle.lists.proofs.Bool.{leb-in, leb-sound, eqb-same, and-in, and-l, and-r, clash}
+use Rattle.lists.proofs.Member.{all-in}
+use Rattle.lists.proofs.Number.{upTo-range}
 use Rattle.planning.specs.Table.{Table}
-use Rattle.planning.specs.Tree.{Tree}
+use Rattle.planning.specs.Tree.{Tree, TreeOf}
+use Rattle.planning.specs.Record.{records}
 use Rattle.planning.specs.Variable.{variables}
 use Rattle.planning.specs.Clause.{Lit, formula}
-use Rattle.planning.specs.Model.{value, satisfies, Model, given, Gives}
+use Rattle.planning.specs.Model.{value, satisfies, Model, given, Gives, bits, truthsIn}
 use Rattle.planning.specs.Accepted.{Accepted}
 use Rattle.planning.proofs.Demand3.{demand3}
-use Rattle.tree.specs.Words.{met10}
+use Rattle.tree.specs.Words.{treeWords, met10}
 use Rattle.solver.specs.Line.{Word, satisfiable, unsatisfiable, unknown}
 use Rattle.solver.specs.File.{Answer, answerOf}
-use Rattle.solver.specs.Questions.{isSome, saysSatisfiable, numbersSaid, met12, met13, met14, onceEach, truths, bits}
-use Rattle.model.specs.Clauses.{truthsIn}
+use Rattle.solver.specs.Questions.{isSome, saysSatisfiable, numbersSaid, met12, met13, met14, onceEach, truths}
 use Rattle.solver.proofs.Once.{once-out, once-in, truths-length}
 use Rattle.solver.proofs.File.{answerFile, literals, file-length, file-says, file-met14, file-values}
-use Rattle.listing.specs.Listing.{Names, namesAt, listing}
+use Rattle.listing.specs.Listing.{Names, shownNames, listing}
 use Rattle.listing.proofs.Walked.{walked-is}
 use Rattle.listing.proofs.Fits.{walked-fits}
 use Rattle.questions.specs.Questions.{Verdict, accepted, accepting, namesOf, enoughTree, byNumber, byVerdict, asked, turnedDown, taken}
-use Rattle.questions.specs.Questions.{Answer as Outcome}
 use Rattle.questions.proofs.Asked.{asked-accepted}
-use Rattle.answer.specs.Calls.{enoughValues, enoughListing, met15, answered, questionsTaking, taking, valuesAfter, own, lent14, lent, questionsListing, listingOf, shown, showing, textAfter}
-use Rattle.answer.specs.Demand3.{AcceptedAs, OwnTree, SaysSatisfiable, SetsAndSatisfies, Takes, Lists, Demand3Whole}
+use Rattle.answer.specs.Calls.{enoughValues, enoughListing, met15, answered, questionsTaking, taking, valuesAfter, own, lent14, lent, questionsListing, listingOf, shown, showing, listingAfter}
+use Rattle.answer.specs.Demand3.{OwnTree, SaysSatisfiable, SetsAndSatisfies, Takes, Lists, ForEveryAcceptedFile}
 use Rattle.answer.proofs.Questions.{FiveMet, five-met, five-of, lent-all, lent-met}
 use Rattle.answer.proofs.Acceptance.{accepted-table, short-names}
 use Rattle.answer.proofs.Bits.{bits-back, bits-same, bits-binary, bits-length}
@@ -116,7 +117,7 @@ module _ (file : List ℕ) (T : Table) (a : accepting file ≡ accepted T) where
       )
 
     pub takes-no-other : (ns : List ℕ) → taking file tree answer values ≡ taken ns
-        → (ls : List Lit) × SaysSatisfiable answer ls × SetsAndSatisfies T ls × Takes file tree answer values T (truths (variables T) ls)
+        → (ls : List Lit) × SaysSatisfiable answer ls × SetsAndSatisfies T ls × OwnTree T tree × (8191 ≤ length values) × Takes file tree answer values T (truths (variables T) ls)
     takes-no-other ns e =
         let r = takes-met e in
         let m = r .1 in
@@ -125,12 +126,13 @@ module _ (file : List ℕ) (T : Table) (a : accepting file ≡ accepted T) where
           short = leb-sound (length answer) 65536 (and-l (leb (length answer) 65536) (isSome (answerOf answer)) (m .twelfth));
           formed = said (answerOf answer) (and-r (leb (length answer) 65536) (isSome (answerOf answer)) (m .twelfth)) (m .thirteenth);
         } in
-        (ls, s, sets-of ls s m, met-takes (r .0) m)
+        let o : OwnTree T tree = record { long = leb-sound 5120 (length tree) (and-l (enoughTree tree) (enoughValues values) (r .0)); own = m .tenth } in
+        (ls, s, sets-of ls s m, o, leb-sound 8191 (length values) (and-r (enoughTree tree) (enoughValues values) (r .0)), met-takes (r .0) m)
 
     pub are-models : (ns : List ℕ) → taking file tree answer values ≡ taken ns → (vs : List Bool) × Model T vs × Takes file tree answer values T vs
     are-models ns e =
         let r = takes-no-other ns e in
-        (truths (variables T) (r .0), record { whole = truths-length (variables T) (r .0); true-clauses = r .2 .satisfied }, r .3)
+        (truths (variables T) (r .0), record { whole = truths-length (variables T) (r .0); true-clauses = r .2 .satisfied }, r .5)
 
   pub all-models : (vs : List Bool) → Model T vs → (tree values : List ℕ) → OwnTree T tree → 8191 ≤ length values → (answer : List ℕ) × Takes file tree answer values T vs
   all-models vs m tree values o l =
@@ -153,15 +155,15 @@ module _ (file : List ℕ) (T : Table) (a : accepting file ≡ accepted T) where
     abbrev allEnough : Bool
     allEnough = enoughTree tree && (enoughValues values && enoughListing text)
 
-    fits : (vs : List Bool) (t : Tree) → Model T vs → Gives T vs t → length (listing (namesAt file (namesOf file)) t) ≤ 24576
+    fits : (vs : List Bool) (t : Tree) → Model T vs → Gives T vs t → length (listing (shownNames file (namesOf file)) t) ≤ 24576
     fits vs t m g =
-        let N = namesAt file (namesOf file) in
+        let N = shownNames file (namesOf file) in
         omega (arith, ap length (walked-is N m g), walked-fits (accepted-table file T a) (short-names file T a) (value vs))
 
     shows : allEnough ≡ true → met10 T tree ≡ true → lent14 T values ≡ true → met15 T (lent T values) ≡ true → Model T (lent T values)
         → (t : Tree) → Gives T (lent T values) t → Lists file tree values text t
     shows e o p q m t g =
-        let N = namesAt file (namesOf file) in
+        let N = shownNames file (namesOf file) in
         let z : firstUnmet (questionsListing tree values T) ≡ 0 = lent-all (met10 T tree) (lent14 T values) (met15 T (lent T values)) o p q in
         let s : shown file values T ≡ listing N t = ap (listingOf N) g in
         record {
@@ -173,14 +175,17 @@ module _ (file : List ℕ) (T : Table) (a : accepting file ≡ accepted T) where
         }
 
     pub lists-no-other : (ns : List ℕ) → showing file tree values text ≡ taken ns
-        → (vs : List Bool) × (t : Tree) × Model T vs × Gives T vs t × (take (variables T) values ≡ bits vs) × Lists file tree values text t
+        → (vs : List Bool) × (t : Tree) × Model T vs × Gives T vs t × (take (variables T) values ≡ bits vs) × OwnTree T tree × (8191 ≤ length values) × (24576 ≤ length text)
+        × Lists file tree values text t
     lists-no-other ns e =
         let r = was-taken file T a (questionsListing tree values) (λ T. length (shown file values T) ∷ []) allEnough e in
         let q = lent-met (met10 T tree) (lent14 T values) (met15 T (lent T values)) (r .1) in
-        let l = leb-sound 8191 (length values) (and-l (enoughValues values) (enoughListing text) (and-r (enoughTree tree) (enoughValues values && enoughListing text) (r .0))) in
+        let b = and-r (enoughTree tree) (enoughValues values && enoughListing text) (r .0) in
+        let l = leb-sound 8191 (length values) (and-l (enoughValues values) (enoughListing text) b) in
+        let o : OwnTree T tree = record { long = leb-sound 5120 (length tree) (and-l (enoughTree tree) (enoughValues values && enoughListing text) (r .0)); own = q .0 } in
         let m = lent-model T (accepted-table file T a) values l (q .2) in
         let g = demand3 T ((accepted-table file T a) .sound) .gives (lent T values) m in
-        (lent T values, g .0, m, g .1, sym (bits-same (own T values) (q .1)), shows (r .0) (q .0) (q .1) (q .2) m (g .0) (g .1))
+        (lent T values, g .0, m, g .1, sym (bits-same (own T values) (q .1)), o, l, leb-sound 24576 (length text) (and-r (enoughValues values) (enoughListing text) b), shows (r .0) (q .0) (q .1) (q .2) m (g .0) (g .1))
 
   pub lists : (tree more text : List ℕ) (vs : List Bool) (t : Tree) → OwnTree T tree → 8191 ≤ length (bits vs ++ more) → 24576 ≤ length text
       → Model T vs → Gives T vs t → Lists file tree (bits vs ++ more) text t
@@ -195,17 +200,38 @@ module _ (file : List ℕ) (T : Table) (a : accepting file ≡ accepted T) where
       (subst (λ (ws : List Bool). Model T ws) (sym z) m)
       t (subst (λ (ws : List Bool). Gives T ws t) (sym z) g)
 
-pub demand3-whole : (file : List ℕ) (T : Table) → AcceptedAs file T → Demand3Whole file T
+  -- an answer taken and then listed
+  pub then-lists : (tree answer values text ns : List ℕ) → taking file tree answer values ≡ taken ns → 24576 ≤ length text
+      → (vs : List Bool) × (t : Tree) × Model T vs × Gives T vs t × TreeOf T t × Takes file tree answer values T vs × Lists file tree (valuesAfter file tree answer values) text t
+  then-lists tree answer values text ns e k =
+      let c = takes-no-other tree answer values ns e in
+      let m = are-models tree answer values ns e in
+      let g = demand3 T ((accepted-table file T a) .sound) .gives (m .0) (m .1) in
+      let h : 8191 ≤ length (bits (m .0) ++ drop (variables T) values) =
+      omega (arith, length-append (bits (m .0)) (drop (variables T) values), length-drop (variables T) values, bits-length (m .0), m .1 .whole, c .4, (accepted-table file T a) .few-variables) in
+      (m .0, g .0, m .1, g .1, g .2, m .2, subst (λ (w : List ℕ). Lists file tree w text (g .0)) (sym (m .2 .left)) (lists tree (drop (variables T) values) text (m .0) (g .0) (c .3) h k (m .1) (g .1)))
+
+-- a table's own records, with anything behind them
+own-trees : (T : Table) (more : List ℕ) → 5120 ≤ length (treeWords (records T) ++ more) → OwnTree T (treeWords (records T) ++ more)
+own-trees T more l = record {
+  long = l;
+  own = all-in (λ i. eqb (getD (treeWords (records T) ++ more) i 0) (getD (treeWords (records T)) i 0)) (upTo (length (treeWords (records T))))
+      (λ i h.
+      subst (λ (k : ℕ). eqb k (getD (treeWords (records T)) i 0) ≡ true)
+      (sym (List·getD-append (treeWords (records T)) more 0 i (upTo-range i (length (treeWords (records T))) h)))
+      (eqb-same (getD (treeWords (records T)) i 0)));
+}
+
+pub demand3-whole : ForEveryAcceptedFile
 demand3-whole file T a =
-    let d = demand3 T ((accepted-table file T a) .sound) in
     record {
       takes = λ tree answer values ls o l s. takes file T a tree answer values ls s o l;
+      own-trees = own-trees T;
       takes-no-other = takes-no-other file T a;
       are-models = are-models file T a;
       all-models = all-models file T a;
-      gives = d .gives;
-      apart = d .apart;
-      exact = d .exact;
+      trees = demand3 T ((accepted-table file T a) .sound);
+      then-lists = then-lists file T a;
       lists = lists file T a;
       lists-no-other = lists-no-other file T a;
     }

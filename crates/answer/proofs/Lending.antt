@@ -13,7 +13,7 @@ use Rattle.table.specs.Reading.{NameParts}
 use Rattle.table.specs.Layout.{namePartsFrom}
 use Rattle.tree.specs.Words.{treeWords, met10}
 use Rattle.shape.specs.Shape.{Indexed}
-use Rattle.listing.specs.Listing.{Names, namesAt, ShortNames}
+use Rattle.listing.specs.Listing.{Names, shownNames, ShortNames}
 use Rattle.listing.specs.Walk.{Listable}
 use Rattle.questions.specs.Questions.{accepted, ifMet, accepting, namesOf}
 use Rattle.questions.specs.Parts.{IsPrepared}
@@ -32,8 +32,8 @@ module _ (file : List ℕ) {T : Table} {p : Prepared} (h : IsPrepared file T p) 
   few-nodes = omega (arith, h .nodes z, (h .accepted z) .few-nodes)
 
   -- a table's names are those of its file
-  pub own-names : namesAt file (namePartsFrom (p .table)) ≡ namesAt file (namesOf file)
-  own-names = ap (namesAt file) (h .names z)
+  pub own-names : shownNames file (namePartsFrom (p .table)) ≡ shownNames file (namesOf file)
+  own-names = ap (shownNames file) (h .names z)
 
   words : p .nodes * 5 ≡ length (treeWords (records T))
   words = omega (arith, h .nodes z, tree-length T)

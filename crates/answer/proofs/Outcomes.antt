@@ -8,12 +8,12 @@ use lib.ListN.{length, drop}
 use Rattle.lists.proofs.Bool.{leb-in, and-off, leb-no}
 use Rattle.planning.specs.Table.{Table}
 use Rattle.planning.specs.Variable.{variables}
-use Rattle.solver.specs.Questions.{bits}
+use Rattle.planning.specs.Model.{bits}
 use Rattle.questions.specs.Questions.{enoughTree, turnedDown, taken}
 use Rattle.questions.specs.Parts.{IsPrepared}
 use Rattle.questions.specs.declared.Prepared.{Prepared}
 use Rattle.questions.proofs.Asked.{asked-short, asked-unmet, asked-met}
-use Rattle.answer.specs.Calls.{enoughValues, enoughListing, takenFrom, answered, questionsTaking, taking, valuesAfter, listedFrom, questionsListing, shown, showing, textAfter}
+use Rattle.answer.specs.Calls.{enoughValues, enoughListing, takenFrom, answered, questionsTaking, taking, valuesAfter, listedFrom, questionsListing, shown, showing, listingAfter}
 use Rattle.answer.specs.Parts.{Took, Showed}
 use Rattle.answer.specs.declared.Taken.{Taken}
 use Rattle.answer.specs.declared.Listed.{Listed}
@@ -54,7 +54,7 @@ module _ (file tree values text : List ℕ) where
   abbrev pub lentEnough : Bool
   lentEnough = enoughTree tree && (enoughValues values && enoughListing text)
 
-  pub list-short : lentEnough ≡ false → (turnedDown 1 ≡ showing file tree values text) × (text ≡ textAfter file tree values text)
+  pub list-short : lentEnough ≡ false → (turnedDown 1 ≡ showing file tree values text) × (text ≡ listingAfter file tree values text)
   list-short e = (
     sym (asked-short file (questionsListing tree values) turnedDown (λ T. taken (length (shown file values T) ∷ [])) e),
     sym (asked-short file (questionsListing tree values) (λ n. text) (λ T. shown file values T ++ drop (length (shown file values T)) text) e),
@@ -73,14 +73,14 @@ module _ (file tree values text : List ℕ) where
     all-enough : lentEnough ≡ true
     all-enough = rw (leb-in 5120 (length tree) h, leb-in 8191 (length values) k, leb-in 24576 (length text) l)
 
-    pub list-unmet : (p .question ≡ 0 → ⊥) → (turnedDown (p .question) ≡ showing file tree values text) × (text ≡ textAfter file tree values text)
+    pub list-unmet : (p .question ≡ 0 → ⊥) → (turnedDown (p .question) ≡ showing file tree values text) × (text ≡ listingAfter file tree values text)
     list-unmet u = (
       sym (asked-unmet file (questionsListing tree values) turnedDown (λ T. taken (length (shown file values T) ∷ [])) prepared all-enough u),
       sym (asked-unmet file (questionsListing tree values) (λ n. text) (λ T. shown file values T ++ drop (length (shown file values T)) text) prepared all-enough u),
     )
 
     pub list-met : {text′ : List ℕ} {r : Listed} → p .question ≡ 0 → Showed file T tree values text text′ r
-        → (listedFrom r ≡ showing file tree values text) × (text′ ≡ textAfter file tree values text)
+        → (listedFrom r ≡ showing file tree values text) × (text′ ≡ listingAfter file tree values text)
     list-met z s = (
       s .handed-back ∙ sym (asked-met file (questionsListing tree values) turnedDown (λ T. taken (length (shown file values T) ∷ [])) prepared all-enough z),
       s .left ∙ sym (asked-met file (questionsListing tree values) (λ n. text) (λ T. shown file values T ++ drop (length (shown file values T)) text) prepared all-enough z),

@@ -18,16 +18,13 @@ use Rattle.planning.specs.Table.{Table}
 use Rattle.planning.specs.Tree.{Tree}
 use Rattle.planning.specs.Variable.{variables}
 use Rattle.planning.specs.Clause.{formula}
-use Rattle.planning.specs.Model.{value, satisfies, Model, given, Gives}
+use Rattle.planning.specs.Model.{value, satisfies, Model, given, Gives, truthsIn}
 use Rattle.planning.specs.Accepted.{Accepted}
 use Rattle.planning.proofs.Demand3.{demand3}
 use Rattle.tree.specs.Words.{met10}
-use Rattle.model.specs.Clauses.{truthsIn}
-use Rattle.model.proofs.Values.{value-at}
-use Rattle.listing.specs.Listing.{Names, namesAt, listing}
+use Rattle.listing.specs.Listing.{Names, shownNames, listing}
 use Rattle.listing.specs.Walk.{walked, valueOf}
 use Rattle.listing.proofs.Walked.{walked-is}
-use Rattle.listing.proofs.Rows.{walked-agree}
 use Rattle.questions.specs.Questions.{namesOf, byNumber, turnedDown, taken}
 use Rattle.answer.specs.Calls.{met15, own, lent14, lent, questionsListing, listingOf, shown}
 use Rattle.answer.specs.Parts.{Showed}
@@ -51,13 +48,12 @@ module _ (T : Table) (a : Accepted T) (values : List ℕ) (long : 8191 ≤ lengt
   lent-model e = record { whole = length-map (own T values) (eqb 1) ∙ own-length; true-clauses = e }
 
   -- the listing of the tree that they give is what is read node by node
-  pub shown-walked : (file : List ℕ) → met15 T (lent T values) ≡ true → walked T (namesAt file (namesOf file)) (valueOf (own T values)) ≡ shown file values T
+  pub shown-walked : (file : List ℕ) → met15 T (lent T values) ≡ true → walked T (shownNames file (namesOf file)) (valueOf (own T values)) ≡ shown file values T
   shown-walked file e =
-      let N = namesAt file (namesOf file) in
+      let N = shownNames file (namesOf file) in
       let m = lent-model e in
       let g = demand3 T (a .sound) .gives (lent T values) m in
-      walked-agree T (valueOf (own T values)) (value (lent T values)) (λ i l k. sym (value-at (own T values) i)) N
-      ∙ (walked-is N m (g .1) ∙ sym (ap (listingOf N) (g .1)))
+      walked-is N m (g .1) ∙ sym (ap (listingOf N) (g .1))
 
 module _ (file : List ℕ) (T : Table) (tree values text : List ℕ) where
   pub other-tree : met10 T tree ≡ false → Showed file T tree values text text (Refused 10)
@@ -80,7 +76,7 @@ module _ (file : List ℕ) (T : Table) (tree values text : List ℕ) where
       pub not-model : not d ≡ true → Showed file T tree values text text (Refused 15)
       not-model f = refused-by (lent-15 (met10 T tree) (lent14 T values) (met15 T (lent T values)) m (said-yes (binary q) y) (said-no (put s) f)) (λ z. omega arith)
 
-      pub showed : not d ≡ false → Accepted T → 8191 ≤ length values → {N : Names} → N ≡ namesAt file (namesOf file) → {text′ : List ℕ} {r : ℕ}
+      pub showed : not d ≡ false → Accepted T → 8191 ≤ length values → {N : Names} → N ≡ shownNames file (namesOf file) → {text′ : List ℕ} {r : ℕ}
           → Wrote text 0 (walked T N (valueOf (take n values))) text′ r → Showed file T tree values text text′ (Written r)
       showed f a long {N} k {text′} {r} w =
           let f15 : met15 T (lent T values) ≡ true = said-yes (put s) f in

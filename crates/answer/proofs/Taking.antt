@@ -11,14 +11,14 @@ use Rattle.lists.proofs.Bool.{said-no, said-yes}
 use Rattle.planning.specs.Table.{Table}
 use Rattle.planning.specs.Variable.{variables}
 use Rattle.planning.specs.Clause.{formula}
-use Rattle.planning.specs.Model.{value, satisfies}
+use Rattle.planning.specs.Model.{value, satisfies, bits, truthsIn}
 use Rattle.tree.specs.Words.{met10}
 use Rattle.solver.specs.File.{answerOf}
-use Rattle.solver.specs.Questions.{met12, met13, met14, numbersSaid, bits, Heard}
+use Rattle.solver.specs.Questions.{met12, met13, met14, numbersSaid}
+use Rattle.solver.specs.Scan.{Heard}
 use Rattle.solver.proofs.Once.{truths-length}
 use Rattle.solver.proofs.Reading.{heard-is}
 use Rattle.cells.specs.Read.{Read}
-use Rattle.model.specs.Clauses.{truthsIn}
 use Rattle.questions.specs.Questions.{byNumber, turnedDown, taken}
 use Rattle.answer.specs.Calls.{met15, answered, questionsTaking}
 use Rattle.answer.specs.Parts.{Took}

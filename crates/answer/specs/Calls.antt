@@ -1,4 +1,4 @@
--- The calls that take an answer and list a procedure: what each answers and leaves in what it was lent, for every file, every tree,
+-- The calls that take an answer and list a procedure: what each hands back and leaves in what it was lent, for every file, every tree,
 -- every answer and every buffer. Assumes nothing.
 use mathlib.Core.Bool.{Bool, _&&_}
 use mathlib.Core.List.{List, [], _∷_, _++_}
@@ -11,12 +11,11 @@ use Rattle.planning.specs.Table.{Table}
 use Rattle.planning.specs.Tree.{Tree}
 use Rattle.planning.specs.Variable.{variables}
 use Rattle.planning.specs.Clause.{formula}
-use Rattle.planning.specs.Model.{value, satisfies, given}
+use Rattle.planning.specs.Model.{value, satisfies, given, bits, truthsIn}
 use Rattle.tree.specs.Words.{met10}
-use Rattle.solver.specs.Questions.{met12, met13, met14, valuesOf, bits}
-use Rattle.model.specs.Clauses.{truthsIn}
-use Rattle.listing.specs.Listing.{Names, namesAt, listing}
-use Rattle.questions.specs.Questions.{enoughTree, namesOf, asked, Answer, turnedDown, taken}
+use Rattle.solver.specs.Questions.{met12, met13, met14, valuesOf}
+use Rattle.listing.specs.Listing.{Names, shownNames, listing}
+use Rattle.questions.specs.Questions.{enoughTree, namesOf, asked, HandedBack, turnedDown, taken}
 use Rattle.answer.specs.declared.Taken.{Taken}
 use Rattle.answer.specs.declared.Taken.the-variants.{Refused as TakeRefused, Values}
 use Rattle.answer.specs.declared.Listed.{Listed}
@@ -29,12 +28,13 @@ enoughValues values = leb 8191 (length values)
 abbrev pub enoughListing : List ℕ → Bool
 enoughListing text = leb 24576 (length text)
 
--- 15. "Is every clause satisfied?" (12 to 14 of an answer file stand in crate `solver`, 10 in `tree`, 1 to 9 in `questions`.)
+-- 15. "Is every clause satisfied?" (1 of the tree, 8 and 9 stand in crate `questions`, 2 to 7 in `table`, 10 in `tree`, 12 to 14 of an answer file
+-- in `solver`.)
 abbrev pub met15 : Table → List Bool → Bool
 met15 T vs = satisfies (value vs) (formula T)
 
 -- Taking an answer: 1, 2 to 9, 10, 12 to 15 ----------------------------------------------------------------------------------------
-abbrev pub takenFrom : Taken → Answer
+abbrev pub takenFrom : Taken → HandedBack
 takenFrom (TakeRefused n) = turnedDown n
 takenFrom (Values n) = taken (n ∷ [])
 
@@ -47,7 +47,7 @@ questionsTaking tree answer T =
     (10, met10 T tree) ∷ (12, met12 answer) ∷ (13, met13 answer) ∷ (14, met14 (variables T) answer) ∷ (15, met15 T (answered T answer)) ∷ []
 
 -- it hands back how many values there are
-abbrev pub taking : (file tree answer values : List ℕ) → Answer
+abbrev pub taking : (file tree answer values : List ℕ) → HandedBack
 taking file tree answer values =
     asked (enoughTree tree && enoughValues values) file (questionsTaking tree answer) turnedDown (λ T. taken (variables T ∷ []))
 
@@ -59,7 +59,7 @@ valuesAfter file tree answer values =
     (λ T. bits (answered T answer) ++ drop (variables T) values)
 
 -- Listing a procedure: 1, 2 to 9, 10, 14, 15 ---------------------------------------------------------------------------------------
-abbrev pub listedFrom : Listed → Answer
+abbrev pub listedFrom : Listed → HandedBack
 listedFrom (ListRefused n) = turnedDown n
 listedFrom (Written n) = taken (n ∷ [])
 
@@ -83,16 +83,16 @@ listingOf N none = []
 listingOf N (some t) = listing N t
 
 abbrev pub shown : (file values : List ℕ) → Table → List ℕ
-shown file values T = listingOf (namesAt file (namesOf file)) (given T (lent T values))
+shown file values T = listingOf (shownNames file (namesOf file)) (given T (lent T values))
 
 -- it hands back how many bytes are used
-abbrev pub showing : (file tree values text : List ℕ) → Answer
+abbrev pub showing : (file tree values text : List ℕ) → HandedBack
 showing file tree values text =
     asked (enoughTree tree && (enoughValues values && enoughListing text)) file (questionsListing tree values) turnedDown
     (λ T. taken (length (shown file values T) ∷ []))
 
 -- later bytes keep their contents
-abbrev pub textAfter : (file tree values text : List ℕ) → List ℕ
-textAfter file tree values text =
+abbrev pub listingAfter : (file tree values text : List ℕ) → List ℕ
+listingAfter file tree values text =
     asked (enoughTree tree && (enoughValues values && enoughListing text)) file (questionsListing tree values) (λ n. text)
     (λ T. shown file values T ++ drop (length (shown file values T)) text)

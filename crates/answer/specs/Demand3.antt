@@ -11,23 +11,24 @@ use lib.ListN.{length, take, drop}
 use Rattle.lists.specs.List.{Every}
 use Rattle.planning.specs.Table.{Table}
 use Rattle.planning.specs.Tree.{Tree, TreeOf}
+use Rattle.planning.specs.Record.{records}
 use Rattle.planning.specs.Variable.{variables}
 use Rattle.planning.specs.Clause.{Lit, variableOf, formula}
-use Rattle.planning.specs.Model.{value, satisfies, Model, Gives}
-use Rattle.planning.specs.Demand3.{EqualAtEvery, GiveSame, GivenByAModel, Wanted}
-use Rattle.tree.specs.Words.{met10}
+use Rattle.planning.specs.Model.{value, satisfies, Model, Gives, bits}
+use Rattle.planning.specs.Demand3.{Demand3}
+use Rattle.tree.specs.Words.{treeWords, met10}
 use Rattle.solver.specs.Line.{satisfiable}
 use Rattle.solver.specs.File.{answerOf}
-use Rattle.solver.specs.Questions.{times, truths, bits}
-use Rattle.listing.specs.Listing.{namesAt, listing}
+use Rattle.solver.specs.Questions.{times, truths}
+use Rattle.listing.specs.Listing.{shownNames, listing}
 use Rattle.questions.specs.Questions.{accepting, accepted, namesOf, taken}
-use Rattle.answer.specs.Calls.{taking, valuesAfter, showing, textAfter}
+use Rattle.answer.specs.Calls.{taking, valuesAfter, showing, listingAfter}
 
 -- "an accepted table": the reader's word on the file's bytes
 abbrev pub AcceptedAs : List ℕ → Table → Type 0
 AcceptedAs file T = accepting file ≡ accepted T
 
--- "its own tree where one is read and buffers long enough"
+-- "its own tree where one is read": long enough, and its first records are the table's (question 10)
 pub record OwnTree (T : Table) (tree : List ℕ) : Type 0 where
   pub long : 5120 ≤ length tree
   pub own : met10 T tree ≡ true
@@ -50,32 +51,39 @@ pub record Takes (file tree answer values : List ℕ) (T : Table) (vs : List Boo
 
 -- the call listed the tree t
 pub record Lists (file tree values text : List ℕ) (t : Tree) : Type 0 where
-  pub handed-back : showing file tree values text ≡ taken (length (listing (namesAt file (namesOf file)) t) ∷ [])
-  pub left : textAfter file tree values text ≡ listing (namesAt file (namesOf file)) t ++ drop (length (listing (namesAt file (namesOf file)) t)) text
-  pub fits : length (listing (namesAt file (namesOf file)) t) ≤ 24576
+  pub handed-back : showing file tree values text ≡ taken (length (listing (shownNames file (namesOf file)) t) ∷ [])
+  pub left : listingAfter file tree values text ≡ listing (shownNames file (namesOf file)) t ++ drop (length (listing (shownNames file (namesOf file)) t)) text
+  pub fits : length (listing (shownNames file (namesOf file)) t) ≤ 24576
 
 pub record Demand3Whole (file : List ℕ) (T : Table) : Type 0 where
   -- "an answer file of at most 65,536 bytes, formed as there, that says SATISFIABLE is taken exactly if it sets each variable once and no
   -- other and satisfies every clause"
   pub takes : (tree answer values : List ℕ) (ls : List Lit) → OwnTree T tree → 8191 ≤ length values → SaysSatisfiable answer ls
       → Takes file tree answer values T (truths (variables T) ls) ↔ SetsAndSatisfies T ls
-  -- "the answers taken are those of demand 2": no other is, whatever was lent,
+  -- (there is such a tree: the table's records, with anything behind them)
+  pub own-trees : (more : List ℕ) → 5120 ≤ length (treeWords (records T) ++ more) → OwnTree T (treeWords (records T) ++ more)
+  -- "the answers taken are those of demand 2": no other is, and with no other tree and no shorter buffer,
   pub takes-no-other : (tree answer values ns : List ℕ) → taking file tree answer values ≡ taken ns
-      → (ls : List Lit) × SaysSatisfiable answer ls × SetsAndSatisfies T ls × Takes file tree answer values T (truths (variables T) ls)
+      → (ls : List Lit) × SaysSatisfiable answer ls × SetsAndSatisfies T ls × OwnTree T tree × (8191 ≤ length values) × Takes file tree answer values T (truths (variables T) ls)
   -- "and their values are a model";
   pub are-models : (tree answer values ns : List ℕ) → taking file tree answer values ≡ taken ns → (vs : List Bool) × Model T vs × Takes file tree answer values T vs
   -- no model is left out: each is the values of an answer that is taken
   pub all-models : (vs : List Bool) → Model T vs → (tree values : List ℕ) → OwnTree T tree → 8191 ≤ length values → (answer : List ℕ) × Takes file tree answer values T vs
-  -- "every model gives a procedure tree of the table";
-  pub gives : (vs : List Bool) → Model T vs → (t : Tree) × Gives T vs t × TreeOf T t
-  -- "two models are equal at every variable exactly when they give the same tree";
-  pub apart : (vs ws : List Bool) → Model T vs → Model T ws → EqualAtEvery T vs ws ↔ GiveSame T vs ws
-  -- "a procedure tree of the table, of whatever height, is given by a model exactly when it starts at the root job, is no higher than the
-  -- depth, and its steps can be done left to right from the initial facts."
-  pub exact : (t : Tree) → TreeOf T t → GivenByAModel T t ↔ Wanted T t
-  -- "the listing then shows the procedure tree that those values describe": of a model's values, with anything behind them
+  -- "every model gives a procedure tree of the table; two models are equal at every variable exactly when they give the same tree; a
+  -- procedure tree of the table, of whatever height, is given by a model exactly when it starts at the root job, is no higher than the depth,
+  -- and its steps can be done left to right from the initial facts" (`gives`, `apart`, `exact`)
+  pub trees : Demand3 T
+  -- "the listing then shows the procedure tree that those values describe": of the values that the call left,
+  pub then-lists : (tree answer values text ns : List ℕ) → taking file tree answer values ≡ taken ns → 24576 ≤ length text
+      → (vs : List Bool) × (t : Tree) × Model T vs × Gives T vs t × TreeOf T t × Takes file tree answer values T vs × Lists file tree (valuesAfter file tree answer values) text t
+  -- and of any model's values, with anything behind them;
   pub lists : (tree more text : List ℕ) (vs : List Bool) (t : Tree) → OwnTree T tree → 8191 ≤ length (bits vs ++ more) → 24576 ≤ length text
       → Model T vs → Gives T vs t → Lists file tree (bits vs ++ more) text t
-  -- no other values are listed: what the call lists is the tree of a model
+  -- no other values are listed, and with no other tree and no shorter buffer
   pub lists-no-other : (tree values text ns : List ℕ) → showing file tree values text ≡ taken ns
-      → (vs : List Bool) × (t : Tree) × Model T vs × Gives T vs t × (take (variables T) values ≡ bits vs) × Lists file tree values text t
+      → (vs : List Bool) × (t : Tree) × Model T vs × Gives T vs t × (take (variables T) values ≡ bits vs) × OwnTree T tree × (8191 ≤ length values) × (24576 ≤ length text)
+      × Lists file tree values text t
+
+-- "For every accepted table and every answer"
+abbrev pub ForEveryAcceptedFile : Type 0
+ForEveryAcceptedFile = (file : List ℕ) (T : Table) → AcceptedAs file T → Demand3Whole file T

@@ -7,7 +7,7 @@ use lib.ListN.{length, drop}
 use Rattle.lists.specs.Question.{firstUnmet}
 use Rattle.planning.specs.Table.{Table}
 use Rattle.planning.specs.Variable.{variables}
-use Rattle.solver.specs.Questions.{bits}
+use Rattle.planning.specs.Model.{bits}
 use Rattle.questions.specs.Questions.{byNumber, turnedDown, taken}
 use Rattle.answer.specs.Calls.{takenFrom, answered, questionsTaking, listedFrom, questionsListing, shown}
 use Rattle.answer.specs.declared.Taken.{Taken}

@@ -9,7 +9,7 @@ ghost use Rattle.planning.specs.Variable.{variables as variablesOf};
 ghost use Rattle.planning.specs.Accepted.{Accepted as AcceptedTable};
 ghost use Rattle.sheet.specs.Sheet.{tableIn};
 ghost use Rattle.questions.specs.Parts.{IsPrepared};
-ghost use Rattle.answer.specs.Calls.{takenFrom, taking, valuesAfter, listedFrom, showing, textAfter};
+ghost use Rattle.answer.specs.Calls.{takenFrom, taking, valuesAfter, listedFrom, showing, listingAfter};
 ghost use Rattle.answer.specs.Parts.{Took, Showed};
 use questions::Prepared;
 
@@ -128,7 +128,7 @@ pub fn list_procedure<'a, 'b>(
     values: &'a [u8],
     text: &'b mut [u8],
 ) -> Listed
-    ensures { λ r. ⌜ (listedFrom r ≡ showing (now (file .entry)) (now (tree .entry)) (now (values .entry)) (now (text .entry))) × (now (text .exit) ≡ textAfter (now (file .entry)) (now (tree .entry)) (now (values .entry)) (now (text .entry))) ⌝ }
+    ensures { λ r. ⌜ (listedFrom r ≡ showing (now (file .entry)) (now (tree .entry)) (now (values .entry)) (now (text .entry))) × (now (text .exit) ≡ listingAfter (now (file .entry)) (now (tree .entry)) (now (values .entry)) (now (text .entry))) ⌝ }
 {
     if tree.len() < 5120 {
         return Listed::Refused(1);

@@ -13,7 +13,7 @@ use borrow.Author.Tests.{eq-eqb, ne-eqb, le-leb, lt-ltb, le-ltb}
 use Rattle.lists.specs.List.{all}
 use Rattle.planning.specs.Clause.{Lit, literal, variableOf}
 use Rattle.solver.specs.File.{isZero}
-use Rattle.solver.specs.Questions.{bit}
+use Rattle.planning.specs.Model.{bit}
 use Rattle.solver.specs.Scan.{free, sign}
 use Rattle.cells.specs.State.{Put}
 

@@ -7,7 +7,7 @@ use mathlib.Core.Option.{Option, none, some}
 use Prim.Native.Nat.{ℕ, _-_}
 use lib.ListN.{take}
 use Rattle.planning.specs.Clause.{Lit, variableOf}
-use Rattle.solver.specs.Questions.{bit}
+use Rattle.planning.specs.Model.{bit}
 use Rattle.solver.specs.Scan.{Reading, free, setIf, sign}
 use Rattle.cells.specs.declared.State.{State}
 

@@ -16,7 +16,7 @@ ghost use Rattle.lines.specs.Parts.{split, ended};
 ghost use Rattle.solver.specs.Line.{satisfiable};
 ghost use Rattle.solver.specs.Number.{numberOf};
 ghost use Rattle.solver.specs.File.{allEnded};
-ghost use Rattle.solver.specs.Questions.{bit};
+ghost use Rattle.planning.specs.Model.{bit};
 ghost use Rattle.solver.specs.Scan.{begin, readNumber, readPart, readParts, readLine, readLines, decide};
 ghost use Rattle.cells.specs.State.{readingFrom, stateFrom, Stands, Put};
 ghost use Rattle.cells.specs.Read.{Told, Read, onlyComments};
@@ -280,7 +280,7 @@ fn read_others(s: &[u8], at: usize) -> usize
 }
 
 // Reads an answer for n variables: questions 12 to 14. The number of the first that is not met comes back, or 0; then the first n cells
-// are the values.
+// are the values. On a refusal what the cells hold is left free.
 pub fn read<'a, 'b>(answer: &'a [u8], n: usize, cells: &'b mut [u8]) -> usize
     requires { ⌜ n ≤ length (now cells) ⌝ }
     ensures { λ r. ⌜ Read n (now (answer .entry)) (now (cells .exit)) r ⌝ }

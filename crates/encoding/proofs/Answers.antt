@@ -20,7 +20,7 @@ use Rattle.planning.specs.Text.{written, bytesUsed, nextLine}
 use Rattle.tree.specs.Words.{treeWords, met10}
 use Rattle.text.specs.Lines.{PutText}
 use Rattle.text.specs.declared.Lines.{Lines}
-use Rattle.encoding.specs.Calls.{met11, enoughText, textFrom, checking, building, treeAfter, behind9, writing, textAfter}
+use Rattle.encoding.specs.Calls.{met11, enoughText, textFrom, checking, building, treeAfter, questionsWriting, writing, textAfter}
 use Rattle.encoding.specs.Parts.{Lined}
 use Rattle.encoding.specs.declared.Text.{Text}
 use Rattle.encoding.specs.declared.Text.the-variants.{Refused, Written}
@@ -30,7 +30,7 @@ use Rattle.questions.specs.declared.Prepared.{Prepared}
 use Rattle.questions.proofs.Asked.{asked-short, asked-unmet, asked-met}
 
 -- Questions 10 and 11 ----------------------------------------------------------------------------------------------------------
-first-10 : (T : Table) (tree : List ℕ) (line : ℕ) → met10 T tree ≡ false → firstUnmet (behind9 tree line T) ≡ 10
+first-10 : (T : Table) (tree : List ℕ) (line : ℕ) → met10 T tree ≡ false → firstUnmet (questionsWriting tree line T) ≡ 10
 first-10 T tree line e = rw e
 
 module _ (T : Table) (tree : List ℕ) (line : ℕ) {o : List ℕ} where
@@ -39,12 +39,12 @@ module _ (T : Table) (tree : List ℕ) (line : ℕ) {o : List ℕ} where
 
   pub past-last-line : {k : ℕ} → met10 T tree ≡ true → k ≡ length (formula T) → k < line → Lined T tree line o o (Refused 11)
   past-last-line {k} e q h =
-      let f : firstUnmet (behind9 tree line T) ≡ 11 = rw (e, leb-no line (length (formula T)) (omega (arith, q))) in
+      let f : firstUnmet (questionsWriting tree line T) ≡ 11 = rw (e, leb-no line (length (formula T)) (omega (arith, q))) in
       record { answer = sym (rw f); left = sym (rw f) }
 
   pub lined : {k : ℕ} {o′ : List ℕ} {l : Lines} → met10 T tree ≡ true → k ≡ length (formula T) → line ≤ k → PutText T line o o′ l → Lined T tree line o o′ (Written (l .used) (l .next))
   lined {k} {o′} {l} e q h p =
-      let f : firstUnmet (behind9 tree line T) ≡ 0 = rw (e, leb-in line (length (formula T)) (omega (arith, q))) in
+      let f : firstUnmet (questionsWriting tree line T) ≡ 0 = rw (e, leb-in line (length (formula T)) (omega (arith, q))) in
       let u : l .used ≡ bytesUsed T line (length o) = omega (arith, p .text .end) in
       record {
         answer = ap₂ (λ (a b : ℕ). taken (a ∷ b ∷ [])) u (p .next) ∙ sym (rw f);
@@ -88,8 +88,8 @@ module _ (file tree : List ℕ) (h : 5120 ≤ length tree) {T : Table} {p : Prep
 module _ (file tree : List ℕ) (line : ℕ) (text : List ℕ) where
   pub text-short : (enoughTree tree && enoughText text) ≡ false → (turnedDown 1 ≡ writing file tree line text) × (text ≡ textAfter file tree line text)
   text-short e = (
-    sym (asked-short file (behind9 tree line) turnedDown (λ T. taken (bytesUsed T line (length text) ∷ nextLine T line (length text) ∷ [])) e),
-    sym (asked-short file (behind9 tree line) (λ n. text) (λ T. written T line (length text) ++ drop (bytesUsed T line (length text)) text) e),
+    sym (asked-short file (questionsWriting tree line) turnedDown (λ T. taken (bytesUsed T line (length text) ∷ nextLine T line (length text) ∷ [])) e),
+    sym (asked-short file (questionsWriting tree line) (λ n. text) (λ T. written T line (length text) ++ drop (bytesUsed T line (length text)) text) e),
   )
 
   pub short-tree : length tree < 5120 → (enoughTree tree && enoughText text) ≡ false
@@ -104,13 +104,13 @@ module _ (file tree : List ℕ) (line : ℕ) (text : List ℕ) where
 
     pub text-unmet : (p .question ≡ 0 → ⊥) → (turnedDown (p .question) ≡ writing file tree line text) × (text ≡ textAfter file tree line text)
     text-unmet u = (
-      sym (asked-unmet file (behind9 tree line) turnedDown (λ T. taken (bytesUsed T line (length text) ∷ nextLine T line (length text) ∷ [])) prepared enough u),
-      sym (asked-unmet file (behind9 tree line) (λ n. text) (λ T. written T line (length text) ++ drop (bytesUsed T line (length text)) text) prepared enough u),
+      sym (asked-unmet file (questionsWriting tree line) turnedDown (λ T. taken (bytesUsed T line (length text) ∷ nextLine T line (length text) ∷ [])) prepared enough u),
+      sym (asked-unmet file (questionsWriting tree line) (λ n. text) (λ T. written T line (length text) ++ drop (bytesUsed T line (length text)) text) prepared enough u),
     )
 
     pub text-met : {text′ : List ℕ} {r : Text} → p .question ≡ 0 → Lined T tree line text text′ r
         → (textFrom r ≡ writing file tree line text) × (text′ ≡ textAfter file tree line text)
     text-met z l = (
-      l .answer ∙ sym (asked-met file (behind9 tree line) turnedDown (λ T. taken (bytesUsed T line (length text) ∷ nextLine T line (length text) ∷ [])) prepared enough z),
-      l .left ∙ sym (asked-met file (behind9 tree line) (λ n. text) (λ T. written T line (length text) ++ drop (bytesUsed T line (length text)) text) prepared enough z),
+      l .answer ∙ sym (asked-met file (questionsWriting tree line) turnedDown (λ T. taken (bytesUsed T line (length text) ∷ nextLine T line (length text) ∷ [])) prepared enough z),
+      l .left ∙ sym (asked-met file (questionsWriting tree line) (λ n. text) (λ T. written T line (length text) ++ drop (bytesUsed T line (length text)) text) prepared enough z),
     )

@@ -1,4 +1,4 @@
--- The calls of the formula part: what each answers and leaves in what it was lent, for every file, every buffer and every line.
+-- The calls of the formula part: what each hands back and leaves in what it was lent, for every file, every buffer and every line.
 -- Assumes nothing.
 use mathlib.Core.Bool.{Bool, true, _&&_}
 use mathlib.Core.List.{List, [], _∷_, _++_}
@@ -12,7 +12,7 @@ use Rattle.planning.specs.Variable.{variables}
 use Rattle.planning.specs.Clause.{formula}
 use Rattle.planning.specs.Text.{written, bytesUsed, nextLine}
 use Rattle.tree.specs.Words.{treeWords, met10}
-use Rattle.questions.specs.Questions.{enoughTree, asked, Answer, turnedDown, taken}
+use Rattle.questions.specs.Questions.{enoughTree, asked, HandedBack, turnedDown, taken}
 use Rattle.encoding.specs.declared.Checked.{Checked}
 use Rattle.encoding.specs.declared.Checked.the-variants.{Refused as CheckRefused, Accepted as CheckAccepted}
 use Rattle.encoding.specs.declared.Built.{Built}
@@ -20,7 +20,8 @@ use Rattle.encoding.specs.declared.Built.the-variants.{Refused as BuildR
 use Rattle.encoding.specs.declared.Text.{Text}
 use Rattle.encoding.specs.declared.Text.the-variants.{Refused as TextRefused, Written}
 
--- 11. "Is the line asked for at most the clause count?" (10 stands in crate `tree`, beside the form of the records; 1 to 9 in `questions`.)
+-- 11. "Is the line asked for at most the clause count?" (1 of the tree, 8 and 9
+-- stand in crate `questions`, 2 to 7 in `table`, 10 in `tree`, beside the form of the records.)
 abbrev pub met11 : Table → ℕ → Bool
 met11 T line = leb line (length (formula T))
 
@@ -29,19 +30,19 @@ abbrev pub enoughText : List ℕ → Bool
 enoughText text = leb 1024 (length text)
 
 -- Checking a table: 2 to 9; how many nodes, variables and clauses there are
-abbrev pub checkedFrom : Checked → Answer
+abbrev pub checkedFrom : Checked → HandedBack
 checkedFrom (CheckRefused n) = turnedDown n
 checkedFrom (CheckAccepted n v m) = taken (n ∷ v ∷ m ∷ [])
 
-abbrev pub checking : (file : List ℕ) → Answer
+abbrev pub checking : (file : List ℕ) → HandedBack
 checking file = asked true file (λ T. []) turnedDown (λ T. taken (nodes (rootPlace T) ∷ variables T ∷ length (formula T) ∷ []))
 
 -- Building the tree: 1, 2 to 9; how many nodes there are. The first records are the table's, the others keep their contents
-abbrev pub builtFrom : Built → Answer
+abbrev pub builtFrom : Built → HandedBack
 builtFrom (BuildRefused n) = turnedDown n
 builtFrom (Nodes n) = taken (n ∷ [])
 
-abbrev pub building : (file tree : List ℕ) → Answer
+abbrev pub building : (file tree : List ℕ) → HandedBack
 building file tree = asked (enoughTree tree) file (λ T. []) turnedDown (λ T. taken (nodes (rootPlace T) ∷ []))
 
 abbrev pub treeAfter : (file tree : List ℕ) → List ℕ
@@ -49,19 +50,19 @@ treeAfter file tree =
     asked (enoughTree tree) file (λ T. []) (λ n. tree) (λ T. treeWords (records T) ++ drop (length (treeWords (records T))) tree)
 
 -- Writing text: 1, 2 to 9, 10, 11; "it returns the bytes used and the next line. Later bytes of the buffer keep their contents"
-abbrev pub textFrom : Text → Answer
+abbrev pub textFrom : Text → HandedBack
 textFrom (TextRefused n) = turnedDown n
 textFrom (Written n j) = taken (n ∷ j ∷ [])
 
-abbrev pub behind9 : (tree : List ℕ) (line : ℕ) → Table → List (ℕ × Bool)
-behind9 tree line T = (10, met10 T tree) ∷ (11, met11 T line) ∷ []
+abbrev pub questionsWriting : (tree : List ℕ) (line : ℕ) → Table → List (ℕ × Bool)
+questionsWriting tree line T = (10, met10 T tree) ∷ (11, met11 T line) ∷ []
 
-abbrev pub writing : (file tree : List ℕ) (line : ℕ) (text : List ℕ) → Answer
+abbrev pub writing : (file tree : List ℕ) (line : ℕ) (text : List ℕ) → HandedBack
 writing file tree line text =
-    asked (enoughTree tree && enoughText text) file (behind9 tree line) turnedDown
+    asked (enoughTree tree && enoughText text) file (questionsWriting tree line) turnedDown
     (λ T. taken (bytesUsed T line (length text) ∷ nextLine T line (length text) ∷ []))
 
 abbrev pub textAfter : (file tree : List ℕ) (line : ℕ) (text : List ℕ) → List ℕ
 textAfter file tree line text =
-    asked (enoughTree tree && enoughText text) file (behind9 tree line) (λ n. text)
+    asked (enoughTree tree && enoughText text) file (questionsWriting tree line) (λ n. text)
     (λ T. written T line (length text) ++ drop (bytesUsed T line (length text)) text)

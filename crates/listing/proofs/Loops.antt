@@ -12,25 +12,25 @@ use Rattle.table.specs.Layout.{namePartsFrom}
 use Rattle.table.specs.declared.Table.{Table as ReadTable}
 use Rattle.index.specs.Index.{source}
 use Rattle.shape.proofs.Nodes.{few-nodes}
-use Rattle.listing.specs.Listing.{Names, namesAt, rowLines}
-use Rattle.listing.specs.Walk.{rowsAt, rowsTo, walked, valueOf, Listable, Ready, Lists}
+use Rattle.listing.specs.Listing.{Names, shownNames, rowLines}
+use Rattle.listing.specs.Walk.{rowsAt, rowsTo, walked, valueOf, Listable, Ready, WroteRows}
 use Rattle.listing.proofs.Rows.{rows-next, bytes-few, steps-done}
 use Rattle.listing.proofs.Writes.{lists-none, lists-same, lists-append}
 
 module _ (r : ReadTable) (file : List ℕ) (T : Table) (values : List ℕ) where
   abbrev names : Names
-  names = namesAt file (namePartsFrom r)
+  names = shownNames file (namePartsFrom r)
 
   -- the rows of the first n nodes are written
   pub record Went (o₀ o : List ℕ) (a k n : ℕ) : Type 0 where
     pub at : n ≤ length ((source T) .nodes)
     pub room : 24576 ≤ length o₀
     pub same : length o ≡ length o₀
-    pub lines : Lists names o₀ 0 0 (rowsTo T (valueOf values) n) o a k
+    pub lines : WroteRows names o₀ 0 0 (rowsTo T (valueOf values) n) o a k
 
 module _ {r : ReadTable} {file : List ℕ} {T : Table} {ix tree values : List ℕ} (l : Listable r file T ix tree values) where
   pub went-none : {o : List ℕ} → 24576 ≤ length o → Went r file T values o o 0 0 0
-  went-none {o} h = record { at = omega arith; room = h; same = refl; lines = lists-none (namesAt file (namePartsFrom r)) o 0 0 }
+  went-none {o} h = record { at = omega arith; room = h; same = refl; lines = lists-none (shownNames file (namePartsFrom r)) o 0 0 }
 
   module _ {o₀ o : List ℕ} {a k n : ℕ} (u : Went r file T values o₀ o a k n) where
     pub went-ready : {c : ℕ} → c ≡ length ((source T) .nodes) → n < c → Ready r file T ix n o a k
@@ -50,7 +50,7 @@ module _ {r : ReadTable} {file : List ℕ} {T : Table} {ix tree values : List �
     }
 
     pub went-more : {c a′ k′ : ℕ} {o′ : List ℕ} → c ≡ length ((source T) .nodes) → n < c → length o′ ≡ length o
-        → Lists (namesAt file (namePartsFrom r)) o a k (rowsAt T (valueOf values) n) o′ a′ k′ → Went r file T values o₀ o′ a′ k′ (n + 1)
+        → WroteRows (shownNames file (namePartsFrom r)) o a k (rowsAt T (valueOf values) n) o′ a′ k′ → Went r file T values o₀ o′ a′ k′ (n + 1)
     went-more e h s w = record {
       at = omega arith;
       room = u .room;
@@ -58,7 +58,7 @@ module _ {r : ReadTable} {file : List ℕ} {T : Table} {ix tree values : List �
       lines = lists-same (sym (rows-next T (valueOf values) n)) (lists-append (omega arith) (u .lines) w);
     }
 
-    pub went-all : {c : ℕ} → c ≡ length ((source T) .nodes) → c ≤ n → Wrote o₀ 0 (walked T (namesAt file (namePartsFrom r)) (valueOf values)) o a
+    pub went-all : {c : ℕ} → c ≡ length ((source T) .nodes) → c ≤ n → Wrote o₀ 0 (walked T (shownNames file (namePartsFrom r)) (valueOf values)) o a
     went-all e h =
         let z : n ≡ length ((source T) .nodes) = omega (arith, u .at) in
-        wrote-same (ap (λ (i : ℕ). rowLines (namesAt file (namePartsFrom r)) 0 (rowsTo T (valueOf values) i)) z) (u .lines .text)
+        wrote-same (ap (λ (i : ℕ). rowLines (shownNames file (namePartsFrom r)) 0 (rowsTo T (valueOf values) i)) z) (u .lines .text)

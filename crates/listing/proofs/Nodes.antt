@@ -31,8 +31,8 @@ use Rattle.index.proofs.Known.{set-length}
 use Rattle.index.proofs.Looked.{step-meaning, job-meaning}
 use Rattle.shape.specs.Shape.{node, InNode}
 use Rattle.shape.proofs.Nodes.{sizes}
-use Rattle.listing.specs.Listing.{Names, namesAt, stepRow, jobLine, stepLine}
-use Rattle.listing.specs.Walk.{stepRows, taskRows, rowsAt, jobRows, firstTrue, valueOf, Listable, Ready, Lists}
+use Rattle.listing.specs.Listing.{Names, shownNames, stepRow, jobLine, stepLine}
+use Rattle.listing.specs.Walk.{stepRows, taskRows, rowsAt, jobRows, firstTrue, valueOf, Listable, Ready, WroteRows}
 use Rattle.listing.proofs.Lines.{step-named, job-named, step-short, job-short}
 use Rattle.listing.proofs.Chosen.{chosen-first, elem-in, elem-past, step-elem, job-elem}
 use Rattle.listing.proofs.Rows.{depth-small, first-variable, last-variable}
@@ -99,13 +99,13 @@ one-row (j ∷ js) s h = absurd (omega arith)
 
 module _ {r : ReadTable} {file : List ℕ} {T : Table} {ix : List ℕ} {n : ℕ} {o : List ℕ} {at k : ℕ} (u : Ready r file T ix n o at k) where
   abbrev names : Names
-  names = namesAt file (namePartsFrom r)
+  names = shownNames file (namePartsFrom r)
 
   pub in-node : InNode T ix n
   in-node = record { indexed = u .indexed; there = u .there }
 
   -- A step
-  pub handed-down : {c : ℕ} (s : ℕ) → c ≡ length ((node T n) .jobs) → 0 < c → Lists names o at k (stepRows ((node T n) .jobs) s) o at k
+  pub handed-down : {c : ℕ} (s : ℕ) → c ≡ length ((node T n) .jobs) → 0 < c → WroteRows names o at k (stepRows ((node T n) .jobs) s) o at k
   handed-down s e h = lists-same (sym (no-rows ((node T n) .jobs) s (omega arith))) (lists-none names o at k)
 
   pub step-name-short : {name : List ℕ} (s : ℕ) → name ≡ bytesAt file (getD ((namePartsFrom r) .steps) s noPart) → length name ≤ 12
@@ -115,7 +115,7 @@ module _ {r : ReadTable} {file : List ℕ} {T : Table} {ix : List ℕ} {n : ℕ}
   job-name-short j e = omega (arith, ap length (e ∙ sym (job-named file (namePartsFrom r) j)), job-short (u .short) j)
 
   pub step-listed : {c e : ℕ} {name o′ : List ℕ} (s : ℕ) → c ≡ length ((node T n) .jobs) → c ≤ 0 → name ≡ bytesAt file (getD ((namePartsFrom r) .steps) s noPart)
-      → Wrote o at (stepLine (k + 1) name) o′ e → Lists names o at k (stepRows ((node T n) .jobs) s) o′ e (k + 1)
+      → Wrote o at (stepLine (k + 1) name) o′ e → WroteRows names o at k (stepRows ((node T n) .jobs) s) o′ e (k + 1)
   step-listed {c} {e} {name} {o′} s p h q w =
       lists-same (sym (one-row ((node T n) .jobs) s (omega arith)))
       (lists-step names s (wrote-same (ap (stepLine (k + 1)) (q ∙ sym (step-named file (namePartsFrom r) s))) w))
@@ -133,13 +133,13 @@ module _ {r : ReadTable} {file : List ℕ} {T : Table} {ix : List ℕ} {n : ℕ}
       found : chosen (valueOf values) (methodVarsAt (node T n)) ≡ getElem? ((node T n) .methods) x
       found = method-found (node T n) (valueOf values) (f ∙ rw (p, q, d))
 
-      pub no-method : (j : ℕ) → c ≤ x → Lists names o at k (jobRows T (valueOf values) n j) o at k
+      pub no-method : (j : ℕ) → c ≤ x → WroteRows names o at k (jobRows T (valueOf values) n j) o at k
       no-method j h =
           let e : chosen (valueOf values) (methodVarsAt (node T n)) ≡ none = found ∙ elem-past ((node T n) .methods) x (omega arith) in
           lists-same (ap (taskRows ((node T n) .jobs) ((recordAt (records T) n) .depth) (some (job j))) (sym e)) (lists-none names o at k)
 
       pub job-listed : {m e : ℕ} {name o′ : List ℕ} (j : ℕ) → x < c → m ≡ methodAt (node T n) x → name ≡ bytesAt file (getD ((namePartsFrom r) .jobs) j noPart)
-          → Wrote o at (jobLine (getD tree (5 * n) 0) name m) o′ e → Lists names o at k (jobRows T (valueOf values) n j) o′ e k
+          → Wrote o at (jobLine (getD tree (5 * n) 0) name m) o′ e → WroteRows names o at k (jobRows T (valueOf values) n j) o′ e k
       job-listed {m} {e} {name} {o′} j h g z w =
           let y : chosen (valueOf values) (methodVarsAt (node T n)) ≡ some m = found ∙ elem-in ((node T n) .methods) x (omega arith) ∙ ap (λ (i : ℕ). some i) (sym g) in
           lists-same (ap (taskRows ((node T n) .jobs) ((recordAt (records T) n) .depth) (some (job j))) (sym y))
@@ -162,18 +162,18 @@ module _ {r : ReadTable} {file : List ℕ} {T : Table} {ix : List ℕ} {n : ℕ}
           → taskRows ((node T n) .jobs) ((recordAt (records T) n) .depth) t (chosen (valueOf values) (methodVarsAt (node T n))) ≡ rowsAt T (valueOf values) n
       rows-by t e = ap (λ (z : Option Task). taskRows ((node T n) .jobs) ((recordAt (records T) n) .depth) z (chosen (valueOf values) (methodVarsAt (node T n)))) (sym e)
 
-      pub nothing-listed : c ≤ x → Lists names o at k (rowsAt T (valueOf values) n) o at k
+      pub nothing-listed : c ≤ x → WroteRows names o at k (rowsAt T (valueOf values) n) o at k
       nothing-listed h = lists-same (rows-by none (no-task (node T n) (valueOf values) first (omega arith))) (lists-none names o at k)
 
       module _ {i e f′ : ℕ} {o′ : List ℕ} (g : i ≡ getD ((node T n) .steps ++ (node T n) .jobs) x 0) where
-        pub step-here : {d : ℕ} → d ≡ length ((node T n) .steps) → x < d → Lists names o at k (stepRows ((node T n) .jobs) i) o′ e f′
-            → Lists names o at k (rowsAt T (valueOf values) n) o′ e f′
+        pub step-here : {d : ℕ} → d ≡ length ((node T n) .steps) → x < d → WroteRows names o at k (stepRows ((node T n) .jobs) i) o′ e f′
+            → WroteRows names o at k (rowsAt T (valueOf values) n) o′ e f′
         step-here h z =
             lists-same (rows-by (some (step i)) (task-found (node T n) (valueOf values) first
             ∙ step-elem ((node T n) .steps) ((node T n) .jobs) x (omega arith) ∙ ap (λ (s : ℕ). some (step s)) (sym g)))
 
-        pub job-here : {d : ℕ} → d ≡ length ((node T n) .steps) → d ≤ x → x < c → Lists names o at k (jobRows T (valueOf values) n i) o′ e f′
-            → Lists names o at k (rowsAt T (valueOf values) n) o′ e f′
+        pub job-here : {d : ℕ} → d ≡ length ((node T n) .steps) → d ≤ x → x < c → WroteRows names o at k (jobRows T (valueOf values) n i) o′ e f′
+            → WroteRows names o at k (rowsAt T (valueOf values) n) o′ e f′
         job-here h z y =
             lists-same (rows-by (some (job i)) (task-found (node T n) (valueOf values) first
             ∙ job-elem ((node T n) .steps) ((node T n) .jobs) x (omega arith) (omega arith) ∙ ap (λ (j : ℕ). some (job j)) (sym g)))

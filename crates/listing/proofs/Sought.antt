@@ -6,14 +6,14 @@ use mathlib.Core.List.{List}
 use Prim.Native.Nat.{ℕ, suc, _+_, _-_, _≤_, _<_}
 use native.Mathlib.Omega.{arith}
 use lib.Dec.{eqb}
-use lib.ListN.{getD}
+use lib.ListN.{getD, List·getD-map}
 use Rattle.lists.proofs.Bool.{eqb-other}
 use Rattle.planning.specs.Model.{Valuation}
 use Rattle.listing.specs.Walk.{firstTrue, valueOf}
 
 -- a value stands one place before its variable's number
 value-at : (vs : List ℕ) (n : ℕ) → 1 ≤ n → valueOf vs n ≡ eqb 1 (getD vs (n - 1) 0)
-value-at vs n h = let z : n ≡ suc (n - 1) = omega arith in ap (valueOf vs) z
+value-at vs n h = let z : n ≡ suc (n - 1) = omega arith in ap (valueOf vs) z ∙ List·getD-map (eqb 1) vs (n - 1) 0
 
 pub value-true : (vs : List ℕ) (n : ℕ) → 1 ≤ n → getD vs (n - 1) 0 ≡ 1 → valueOf vs n ≡ true
 value-true vs n h e = value-at vs n h ∙ ap (eqb 1) e

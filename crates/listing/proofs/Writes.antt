@@ -11,7 +11,7 @@ use Rattle.lists.specs.Written.{Wrote}
 use Rattle.lists.proofs.Written.{wrote-none, wrote-append, wrote-same, wrote-length}
 use Rattle.planning.specs.Text.{decimal}
 use Rattle.listing.specs.Listing.{Names, Row, jobRow, stepRow, jobLine, stepLine, rowLines}
-use Rattle.listing.specs.Walk.{Lists}
+use Rattle.listing.specs.Walk.{WroteRows}
 use Rattle.listing.proofs.Lines.{lines-append, steps-append}
 
 -- Lines ----------------------------------------------------------------------------------------------------------------------
@@ -25,26 +25,26 @@ module _ {o o₁ o₂ o₃ : List ℕ} {at r₁ r₂ r₃ : ℕ} (h : at ≤ len
   wrote-job d name m u v w x = wrote-same (simp append-assoc) (wrote-append h (wrote-append h (wrote-append h u v) w) x)
 
 -- Rows -----------------------------------------------------------------------------------------------------------------------
-pub lists-none : (N : Names) (o : List ℕ) (at k : ℕ) → Lists N o at k [] o at k
+pub lists-none : (N : Names) (o : List ℕ) (at k : ℕ) → WroteRows N o at k [] o at k
 lists-none N o at k = record { text = wrote-none o at; steps = omega arith }
 
-pub lists-same : {N : Names} {o : List ℕ} {at k : ℕ} {rs ss : List Row} {o′ : List ℕ} {r i : ℕ} → rs ≡ ss → Lists N o at k rs o′ r i → Lists N o at k ss o′ r i
+pub lists-same : {N : Names} {o : List ℕ} {at k : ℕ} {rs ss : List Row} {o′ : List ℕ} {r i : ℕ} → rs ≡ ss → WroteRows N o at k rs o′ r i → WroteRows N o at k ss o′ r i
 lists-same e l = rw (← e) l
 
-pub lists-step : (N : Names) {o o′ : List ℕ} {at r k : ℕ} (s : ℕ) → Wrote o at (stepLine (k + 1) (getD (N .steps) s [])) o′ r → Lists N o at k (stepRow s ∷ []) o′ r (k + 1)
+pub lists-step : (N : Names) {o o′ : List ℕ} {at r k : ℕ} (s : ℕ) → Wrote o at (stepLine (k + 1) (getD (N .steps) s [])) o′ r → WroteRows N o at k (stepRow s ∷ []) o′ r (k + 1)
 lists-step N {o} {o′} {at} {r} {k} s w = record {
   text = wrote-same (rw (add-one k) (sym (append-nil (stepLine (suc k) (getD (N .steps) s []))))) w;
   steps = refl;
 }
 
-pub lists-job : (N : Names) {o o′ : List ℕ} {at r k : ℕ} (d j m : ℕ) → Wrote o at (jobLine d (getD (N .jobs) j []) m) o′ r → Lists N o at k (jobRow d j m ∷ []) o′ r k
+pub lists-job : (N : Names) {o o′ : List ℕ} {at r k : ℕ} (d j m : ℕ) → Wrote o at (jobLine d (getD (N .jobs) j []) m) o′ r → WroteRows N o at k (jobRow d j m ∷ []) o′ r k
 lists-job N {o} {o′} {at} {r} {k} d j m w = record {
   text = wrote-same (sym (append-nil (jobLine d (getD (N .jobs) j []) m))) w;
   steps = omega arith;
 }
 
 pub lists-append : {N : Names} {o : List ℕ} {at k : ℕ} {rs ss : List Row} {o₁ o₂ : List ℕ} {r₁ r₂ i₁ i₂ : ℕ} → at ≤ length o
-    → Lists N o at k rs o₁ r₁ i₁ → Lists N o₁ r₁ i₁ ss o₂ r₂ i₂ → Lists N o at k (rs ++ ss) o₂ r₂ i₂
+    → WroteRows N o at k rs o₁ r₁ i₁ → WroteRows N o₁ r₁ i₁ ss o₂ r₂ i₂ → WroteRows N o at k (rs ++ ss) o₂ r₂ i₂
 lists-append {N} {o} {at} {k} {rs} {ss} h l m = record {
   text = wrote-same (sym (lines-append N k rs ss)) (wrote-append h (l .text) (wrote-same (ap (λ (i : ℕ). rowLines N i ss) (l .steps)) (m .text)));
   steps = omega (arith, l .steps, m .steps, steps-append rs ss);

@@ -15,8 +15,8 @@ pub record Names : Type 0 where
   pub jobs : List (List ℕ)
 
 -- "Each name shown is the part of the table file where it was declared."
-abbrev pub namesAt : (file : List ℕ) → NameParts → Names
-namesAt file ns = record { steps = map (bytesAt file) (ns .steps); jobs = map (bytesAt file) (ns .jobs) }
+abbrev pub shownNames : (file : List ℕ) → NameParts → Names
+shownNames file ns = record { steps = map (bytesAt file) (ns .steps); jobs = map (bytesAt file) (ns .jobs) }
 
 -- "A name is 1 to 12 characters"
 pub record ShortNames (N : Names) : Type 0 where
@@ -30,7 +30,7 @@ pub data Row : Type 0 where
   stepRow : (step : ℕ) → Row
 
 -- "Lines of both kinds go together in node order": a tree's rows, where its top stands at depth d, are a job's before those of the trees
--- below it, and these in order
+-- below it, and these in order (that this is node order is proofs/Walked `walked-is`)
 abbrev mutual
   pub rows : Tree → (d : ℕ) → List Row
   rows (alone s) d = stepRow s ∷ []

@@ -4,14 +4,13 @@ use mathlib.Core.Path.{_≡_}
 use mathlib.Core.List.{List, [], _∷_}
 use mathlib.Core.Option.{Option, none, some}
 use Prim.Native.Nat.{ℕ, suc, _+_, _≤_, _<_}
-use lib.Dec.{eqb}
 use lib.ListN.{length, getD}
 use Rattle.lists.specs.List.{concatMap, findIndex, from, upTo}
 use Rattle.lists.specs.Written.{Wrote}
 use Rattle.planning.specs.Table.{Task, step, job, Table}
 use Rattle.planning.specs.Record.{records}
 use Rattle.planning.specs.Variable.{variables}
-use Rattle.planning.specs.Model.{Valuation, chosen}
+use Rattle.planning.specs.Model.{Valuation, value, truthsIn, chosen}
 use Rattle.table.specs.Layout.{namePartsFrom}
 use Rattle.table.specs.declared.Table.{Table as ReadTable}
 use Rattle.tree.specs.Words.{treeWords}
@@ -19,7 +18,7 @@ use Rattle.places.specs.Flat.{Node, tasksAt, methodVarsAt}
 use Rattle.places.specs.Lookup.{recordAt}
 use Rattle.index.specs.Index.{source}
 use Rattle.shape.specs.Shape.{node, Indexed}
-use Rattle.listing.specs.Listing.{Names, namesAt, ShortNames, Row, jobRow, stepRow, rowLines}
+use Rattle.listing.specs.Listing.{Names, shownNames, ShortNames, Row, jobRow, stepRow, rowLines}
 
 -- Rows -----------------------------------------------------------------------------------------------------------------------
 -- a step has its row at a slot, where no job has a variable, and none at an inner node, which hands it down
@@ -54,19 +53,19 @@ walked T N v = rowLines N 0 (rowsTo T v (length ((source T) .nodes)))
 -- What the code is lent ------------------------------------------------------------------------------------------------------
 -- "variable j's value at place j of the values, counted from 1: 1 if true"
 abbrev pub valueOf : List ℕ → Valuation
-valueOf values n = eqb 1 (getD (0 ∷ values) n 0)
+valueOf values = value (truthsIn values)
 
 -- a table with its index and its tree, a value for each variable, and names from the table that was read
 pub record Listable (r : ReadTable) (file : List ℕ) (T : Table) (ix tree values : List ℕ) : Type 0 where
   pub indexed : Indexed T ix
   pub words : tree ≡ treeWords (records T)
   pub long : variables T ≤ length values
-  pub short : ShortNames (namesAt file (namePartsFrom r))
+  pub short : ShortNames (shownNames file (namePartsFrom r))
 
 -- node n of it, with room for a line in o from place at on, and k steps done before
 pub record Ready (r : ReadTable) (file : List ℕ) (T : Table) (ix : List ℕ) (n : ℕ) (o : List ℕ) (at k : ℕ) : Type 0 where
   pub indexed : Indexed T ix
-  pub short : ShortNames (namesAt file (namePartsFrom r))
+  pub short : ShortNames (shownNames file (namePartsFrom r))
   pub there : n < length ((source T) .nodes)
   pub room : at + 24 ≤ length o
   pub few : k < 1024
@@ -83,6 +82,6 @@ stepsIn (jobRow d j m ∷ rs) = stepsIn rs
 stepsIn (stepRow s ∷ rs) = suc (stepsIn rs)
 
 -- the lines of these rows were written into o from place at on, with k steps done before; the end is r, and then i steps are done
-pub record Lists (N : Names) (o : List ℕ) (at k : ℕ) (rs : List Row) (o′ : List ℕ) (r i : ℕ) : Type 0 where
+pub record WroteRows (N : Names) (o : List ℕ) (at k : ℕ) (rs : List Row) (o′ : List ℕ) (r i : ℕ) : Type 0 where
   pub text : Wrote o at (rowLines N k rs) o′ r
   pub steps : i ≡ k + stepsIn rs

@@ -10,9 +10,8 @@ use lib.ListN.{length, getD, drop, drop-of-length-le, List·getD-map, List·getD
 use lib.Seq.{drop-cons}
 use Rattle.lists.proofs.Bool.{eqb-other}
 use Rattle.planning.specs.Clause.{Clause, Lit, pos, neg}
-use Rattle.planning.specs.Model.{Valuation, value, litTrue, clauseTrue}
+use Rattle.planning.specs.Model.{Valuation, value, litTrue, clauseTrue, truthsIn}
 use Rattle.writer.specs.Literal.{litIn, clauseIn}
-use Rattle.model.specs.Clauses.{truthsIn}
 
 module _ (vs : List ℕ) where
   -- variable v's value stands at place v - 1

@@ -6,12 +6,12 @@ ghost use Prim.Native.Nat.{_≤_};
 ghost use lib.Dec.{eqb};
 ghost use lib.ListN.{length};
 ghost use Rattle.planning.specs.Clause.{formula};
-ghost use Rattle.planning.specs.Model.{value, litTrue, clauseTrue, satisfies};
+ghost use Rattle.planning.specs.Model.{value, litTrue, clauseTrue, satisfies, truthsIn};
 ghost use Rattle.writer.specs.Literal.{litIn, clauseIn};
 ghost use Rattle.sheet.specs.Sheet.{tableIn};
 ghost use Rattle.shape.specs.Shape.{Indexed};
 ghost use Rattle.cursor.specs.Cursor.{Holds};
-ghost use Rattle.model.specs.Clauses.{truthsIn, clauseAt};
+ghost use Rattle.model.specs.Clauses.{clauseAt};
 use cursor::Cursor;
 use cursor::Next;
 

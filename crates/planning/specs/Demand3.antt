@@ -1,6 +1,6 @@
 -- Demand 3 for the formula of a table: its models and the procedure trees that are wanted match one to one. The statement alone;
 -- proofs/Demand3.antt proves it of every table that keeps the reader's promises. The quotations here are of the demand itself, of which
--- the part on answer files comes with these. Assumes nothing.
+-- the part on answer files stands in crate `answer`, specs/Demand3. Assumes nothing.
 use mathlib.Core.Path.{_≡_}
 use mathlib.Core.Bool.{Bool, true}
 use mathlib.Core.List.{List}

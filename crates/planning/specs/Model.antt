@@ -2,9 +2,10 @@
 -- Assumes nothing.
 use mathlib.Core.Path.{_≡_}
 use mathlib.Core.Bool.{Bool, true, false, not}
-use mathlib.Core.List.{List, [], _∷_}
+use mathlib.Core.List.{List, [], _∷_, map}
 use mathlib.Core.Option.{Option, none, some}
 use Prim.Native.Nat.{ℕ, _+_}
+use lib.Dec.{eqb}
 use lib.ListN.{length, getD}
 use Rattle.lists.specs.List.{any, all}
 use Rattle.planning.specs.Table.{Task, step, job, Table, bodyOf}
@@ -33,6 +34,17 @@ satisfies v cs = all (clauseTrue v) cs
 -- "variable j's value at place j of the values, counted from 1"
 abbrev pub value : List Bool → Valuation
 value vs n = getD (false ∷ vs) n false
+
+-- "1 if true, 0 if false": values as numbers, and back
+abbrev pub bit : Bool → ℕ
+bit true = 1
+bit false = 0
+
+abbrev pub bits : List Bool → List ℕ
+bits vs = map bit vs
+
+abbrev pub truthsIn : List ℕ → List Bool
+truthsIn vs = map (eqb 1) vs
 
 -- "A model makes each variable true or false, and has no others, so that every clause [is satisfied]": a list of values, one for each
 -- variable (a satisfying assignment)

@@ -28,10 +28,13 @@ pub data Verdict : Type 0 where
   unmet : ℕ → Verdict
   accepted : Table → Verdict
 
--- the number is 0 where all are met
+-- what comes of questions: by the number of the first that is not met, or, where that is 0, what comes of all being met
+abbrev pub byNumber : {A : Type 0} → ℕ → (refuse : ℕ → A) → A → A
+byNumber zero refuse a = a
+byNumber (suc n) refuse a = refuse (suc n)
+
 abbrev pub ifMet : ℕ → Table → Verdict
-ifMet zero T = accepted T
-ifMet (suc n) T = unmet (suc n)
+ifMet n T = byNumber n unmet (accepted T)
 
 abbrev pub afterReading : Reading → Verdict
 afterReading (refused n) = unmet n
@@ -52,10 +55,6 @@ namesOf file = namesAfter (reading file)
 -- "Each call puts those that concern what it was lent", in sequence: 1, where there is a buffer, then 2 to 9, then those behind 9. What
 -- comes of it: by the number of the first question that is not met, or by the table
 module _ {A : Type 0} where
-  abbrev pub byNumber : ℕ → (refuse : ℕ → A) → A → A
-  byNumber zero refuse a = a
-  byNumber (suc n) refuse a = refuse (suc n)
-
   abbrev pub byVerdict : Verdict → (behind9 : Table → List (ℕ × Bool)) → (refuse : ℕ → A) → (succeed : Table → A) → A
   byVerdict (unmet n) behind9 refuse succeed = refuse n
   byVerdict (accepted T) behind9 refuse succeed = byNumber (firstUnmet (behind9 T)) refuse (succeed T)
@@ -64,6 +63,6 @@ module _ {A : Type 0} where
   asked enough file behind9 refuse succeed = cond enough (byVerdict (accepting file) behind9 refuse succeed) (refuse 1)
 
 -- What a call hands back: "that number alone", or its values in order
-pub data Answer : Type 0 where
-  turnedDown : ℕ → Answer
-  taken : List ℕ → Answer
+pub data HandedBack : Type 0 where
+  turnedDown : ℕ → HandedBack
+  taken : List ℕ → HandedBack

@@ -53,7 +53,7 @@ fn measure_of(ws: &[u64]) -> Measure
     }
 }
 
-// Questions 2 to 9. The table's sheet is left in ws.
+// Questions 2 to 9. The table's sheet is left in ws; on a refusal what ws holds and the counts are left free.
 pub fn prepare(file: &[u8], ws: &mut [u64]) -> Prepared
     requires { ⌜ sheetSize ≤ length (now ws) ⌝ }
     ensures { λ r. ⌜ IsPrepared (now (file .entry)) (tableIn (now (ws .exit))) r ⌝ }
@@ -78,7 +78,7 @@ pub fn prepare(file: &[u8], ws: &mut [u64]) -> Prepared
     }
 }
 
-// Question 10, and the index of the table: how many words it has, or 0 where the question is not met.
+// Question 10, and the index of the table: how many words it has, or 0 where the question is not met. What ix holds past them is left free.
 pub fn place<'a, 'b>(ws: &'a [u64], tree: &'a [u64], ix: &'b mut [u64]) -> usize
     requires { ⌜ AcceptedTable (tableIn (now ws)) × (5120 ≤ length (now tree)) × (24578 ≤ length (now ix)) ⌝ }
     ensures { λ r. ⌜ Placed (tableIn (now (ws .entry))) (now (tree .entry)) (now (ix .exit)) r ⌝ }

@@ -8,7 +8,8 @@ use Rattle.lists.specs.Question.{firstUnmet}
 use Rattle.lines.specs.Bytes.{digit, sameBytes}
 use Rattle.lines.specs.Parts.{split, ended}
 use Rattle.solver.specs.File.{answerOf}
-use Rattle.solver.specs.Questions.{met12, met13, met14, valuesOf, bits}
+use Rattle.solver.specs.Questions.{met12, met13, met14, valuesOf}
+use Rattle.planning.specs.Model.{bits}
 
 -- of 5 variables: the number of the first of 12 to 14 that is not met, or 0
 abbrev unmet : List ℕ → ℕ

@@ -20,7 +20,7 @@ use Rattle.planning.proofs.Text.Numeral.{decimal-length}
 use Rattle.lines.specs.Bytes.{LF}
 use Rattle.lines.specs.Parts.{ended}
 use Rattle.solver.specs.Number.{oneMore}
-use Rattle.solver.specs.Line.{satisfiable, Line, says, sets, spelled, lineOf, Written}
+use Rattle.solver.specs.Line.{satisfiable, Line, says, sets, spelled, lineOf, FiveDigits}
 use Rattle.solver.specs.File.{isZero, lastOrMore, beforeZero, answer, fitted, answerIn, answerOf}
 use Rattle.solver.specs.Questions.{isSome, saysSatisfiable, numbersSaid, makesTrue, times, onceEach, truths, valuesOf, met12, met13, met14}
 use Rattle.solver.proofs.Once.{InRange, once-in, truths-length}
@@ -48,7 +48,7 @@ answerFile vs = joined (sLine ∷ vLine (literals 1 vs) ∷ [])
 texts-without : (ks : List Lit) → Without LF (texts ks)
 texts-without ks = every-concatMap (λ (b : ℕ). eqb b LF ≡ false) (λ k. 32 ∷ litText k) ks (λ k m. (refl, text-without LF k (omega arith)))
 
-written-in : (l : Lit) → InRange 99999 l → Written l
+written-in : (l : Lit) → InRange 99999 l → FiveDigits l
 written-in (pos n) h = h .1
 written-in (neg n) h = h
 
@@ -56,7 +56,7 @@ v-line : (ls : List Lit) → Every (InRange 99999) ls → lineOf (vLine ls) ≡ 
 v-line ls h = numbers-line (vLine ls) (ls ++ (pos 0 ∷ [])) (record {
   some-number = omega (arith, length-append ls (pos 0 ∷ []));
   bytes = refl;
-  written = every-append Written ls (pos 0 ∷ []) (every-imp (InRange 99999) Written written-in ls h) (omega arith, tt);
+  written = every-append FiveDigits ls (pos 0 ∷ []) (every-imp (InRange 99999) FiveDigits written-in ls h) (omega arith, tt);
 })
 
 zero-no : (l : Lit) → 1 ≤ variableOf l → isZero l ≡ false

@@ -13,7 +13,8 @@ use lib.Dec.{eqb}
 use Rattle.lists.specs.List.{any, Every}
 use Rattle.lists.proofs.Bool.{or-off, eqb-same}
 use Rattle.planning.specs.Clause.{Lit, pos, neg, variableOf}
-use Rattle.solver.specs.Questions.{bit, makesTrue, times}
+use Rattle.solver.specs.Questions.{makesTrue, times}
+use Rattle.planning.specs.Model.{bit}
 use Rattle.solver.specs.Scan.{sign}
 use Rattle.solver.proofs.Once.{times-own, times-other}
 use Rattle.solver.proofs.Values.{true-other, none-true}

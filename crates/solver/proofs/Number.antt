@@ -18,15 +18,15 @@ use Rattle.planning.specs.Promises.{Digit}
 use Rattle.planning.proofs.Text.Numeral.{numeral as numeral-laws}
 use Rattle.lines.specs.Parts.{split}
 use Rattle.solver.specs.Number.{numeral, positive, negative, numberOf, oneMore, numbersOf}
-use Rattle.solver.specs.Line.{Written}
+use Rattle.solver.specs.Line.{FiveDigits}
 use Rattle.solver.proofs.Parts.{Without, led, split-cons, split-one}
 use Rattle.solver.proofs.Numeral.{numeral-exact}
 
-number-out : (bs : List ℕ) (l : Lit) → numberOf bs ≡ some l → (bs ≡ litText l) × Written l
+number-out : (bs : List ℕ) (l : Lit) → numberOf bs ≡ some l → (bs ≡ litText l) × FiveDigits l
 number-out [] l e = none≢some e
 number-out (b ∷ bs) l e = go (eqb b 45) refl e
   where
-    minus : (o : Option ℕ) → numeral bs ≡ o → b ≡ 45 → negative o ≡ some l → (b ∷ bs ≡ litText l) × Written l
+    minus : (o : Option ℕ) → numeral bs ≡ o → b ≡ 45 → negative o ≡ some l → (b ∷ bs ≡ litText l) × FiveDigits l
     minus none p z q = none≢some q
     minus (some zero) p z q = none≢some q
     minus (some (suc n)) p z q =
@@ -34,13 +34,13 @@ number-out (b ∷ bs) l e = go (eqb b 45) refl e
         let r = numeral-exact bs (suc n) .0 p in
         rw w (ap₂ (λ (x : ℕ) (xs : List ℕ). x ∷ xs) z (r .0), (omega arith, r .1))
 
-    plain : (o : Option ℕ) → numeral (b ∷ bs) ≡ o → positive o ≡ some l → (b ∷ bs ≡ litText l) × Written l
+    plain : (o : Option ℕ) → numeral (b ∷ bs) ≡ o → positive o ≡ some l → (b ∷ bs ≡ litText l) × FiveDigits l
     plain none p q = none≢some q
     plain (some n) p q =
         let w : l ≡ pos n = sym (some-inj q) in
         rw w (numeral-exact (b ∷ bs) n .0 p)
 
-    go : (c : Bool) → eqb b 45 ≡ c → cond c (negative (numeral bs)) (positive (numeral (b ∷ bs))) ≡ some l → (b ∷ bs ≡ litText l) × Written l
+    go : (c : Bool) → eqb b 45 ≡ c → cond c (negative (numeral bs)) (positive (numeral (b ∷ bs))) ≡ some l → (b ∷ bs ≡ litText l) × FiveDigits l
     go true p q = minus (numeral bs) refl (eqb-sound b 45 p) q
     go false p q = plain (numeral (b ∷ bs)) refl q
 
@@ -52,12 +52,12 @@ signed : (n : ℕ) → 1 ≤ n → negative (some n) ≡ some (neg n)
 signed zero p = absurd (omega arith)
 signed (suc n) p = refl
 
-number-in : (l : Lit) → Written l → numberOf (litText l) ≡ some l
+number-in : (l : Lit) → FiveDigits l → numberOf (litText l) ≡ some l
 number-in (pos n) h = unsigned (decimal n) n (numeral-laws n .digits) (numeral-exact (decimal n) n .1 (refl, h))
 number-in (neg n) h = ap negative (numeral-exact (decimal n) n .1 (refl, h .1)) ∙ signed n (h .0)
 
 -- a number of an answer is the text of its literal
-pub number-exact : (bs : List ℕ) (l : Lit) → (numberOf bs ≡ some l) ↔ ((bs ≡ litText l) × Written l)
+pub number-exact : (bs : List ℕ) (l : Lit) → (numberOf bs ≡ some l) ↔ ((bs ≡ litText l) × FiveDigits l)
 number-exact bs l = (number-out bs l, λ h. ap numberOf (h .0) ∙ number-in l (h .1))
 
 -- no byte below the digits stands in a number, but the minus
@@ -75,7 +75,7 @@ texts ks = concatMap (λ k. 32 ∷ litText k) ks
 
 pub record Read (ps : List (List ℕ)) (ks : List Lit) : Type 0 where
   pub bytes : led 32 ps ≡ texts ks
-  pub written : Every Written ks
+  pub written : Every FiveDigits ks
   pub many : length ps ≡ length ks
 
 pub numbers-out : (ps : List (List ℕ)) (ks : List Lit) → numbersOf ps ≡ some ks → Read ps ks
@@ -101,7 +101,7 @@ texts-split [] k = ap (split 32) (append-nil (litText k)) ∙ split-one 32 (litT
 texts-split (j ∷ js) k =
     split-cons 32 (litText k) (litText j ++ texts js) (text-without 32 k (omega arith)) ∙ ap (λ (ps : List (List ℕ)). litText k ∷ ps) (texts-split js j)
 
-pub numbers-in : (ks : List Lit) → Every Written ks → numbersOf (map litText ks) ≡ some ks
+pub numbers-in : (ks : List Lit) → Every FiveDigits ks → numbersOf (map litText ks) ≡ some ks
 numbers-in [] h = refl
 numbers-in (k ∷ ks) h =
     ap (λ (o : Option Lit). oneMore o (numbersOf (map litText ks))) (number-exact (litText k) k .1 (refl, h .0)) ∙ ap (oneMore (some k)) (numbers-in ks (h .1))

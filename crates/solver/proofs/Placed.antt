@@ -14,7 +14,8 @@ use Rattle.lists.specs.List.{any, all}
 use Rattle.lists.proofs.Bool.{bool-cases, clash, and-l, and-r, and-in, or-r, eqb-sound, leb-sound, leb-in, not-true}
 use Rattle.lists.proofs.Place.{all-at, getD-map-from}
 use Rattle.planning.specs.Clause.{Lit, variableOf}
-use Rattle.solver.specs.Questions.{bit, bits, makesTrue, times, onceEach, truths}
+use Rattle.solver.specs.Questions.{makesTrue, times, onceEach, truths}
+use Rattle.planning.specs.Model.{bit, bits}
 use Rattle.solver.specs.Scan.{Reading, begin, sign, free, setIf, put, placed}
 use Rattle.solver.proofs.Once.{truths-length, times-own, once-out, once-in}
 use Rattle.solver.proofs.Filling.{Cell, Good, Out, same-length, good-before, none-left, good-after, out-before}

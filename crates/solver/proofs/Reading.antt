@@ -15,8 +15,9 @@ use Rattle.lines.specs.Parts.{ended}
 use Rattle.solver.specs.Number.{oneMore}
 use Rattle.solver.specs.Line.{Word, satisfiable, unsatisfiable, unknown, Line, comment, says, sets, unformed, lineOf}
 use Rattle.solver.specs.File.{Answer, numbersIn, isZero, lastOrMore, beforeZero, answer, fitted, answerIn, allEnded, answerOf}
-use Rattle.solver.specs.Questions.{isSome, saysSatisfiable, numbersSaid, onceEach, truths, bits, Heard}
-use Rattle.solver.specs.Scan.{Reading, begin, put, end, numberIf, andOn, placed, decide, fromLine, readFrom, heard}
+use Rattle.solver.specs.Questions.{isSome, saysSatisfiable, numbersSaid, onceEach, truths}
+use Rattle.solver.specs.Scan.{Heard, Reading, begin, put, end, numberIf, andOn, placed, decide, fromLine, readFrom, heard}
+use Rattle.planning.specs.Model.{bits}
 use Rattle.solver.proofs.Placed.{putAll, placed-once, placed-values}
 use Rattle.solver.proofs.Lines.{readNumbers, numbersOn, lines-are}
 

@@ -13,8 +13,8 @@ use Rattle.lists.proofs.Bool.{clash, eqb-sound, eqb-same, eqb-other}
 use Rattle.lists.proofs.Member.{any-out, any-in}
 use Rattle.lists.proofs.Place.{getD-map-from}
 use Rattle.planning.specs.Clause.{Lit, pos, neg, variableOf}
-use Rattle.planning.specs.Model.{value}
-use Rattle.solver.specs.Questions.{makesTrue, times, truths, bit, bits}
+use Rattle.planning.specs.Model.{value, bit, bits}
+use Rattle.solver.specs.Questions.{makesTrue, times, truths}
 use Rattle.solver.proofs.Once.{times-own, times-other}
 
 pub true-other : (k : ℕ) (l : Lit) → (k ≡ variableOf l → ⊥) → makesTrue k l ≡ false

@@ -48,10 +48,10 @@ abbrev pub noNumbers : List Lit → Option (List Lit)
 noNumbers [] = some []
 noNumbers (l ∷ ls) = none
 
-abbrev pub fitting : Word → List Lit → Option (List Lit)
-fitting satisfiable ls = beforeZero ls
-fitting unsatisfiable ls = noNumbers ls
-fitting unknown ls = noNumbers ls
+abbrev pub numbersFitting : Word → List Lit → Option (List Lit)
+numbersFitting satisfiable ls = beforeZero ls
+numbersFitting unsatisfiable ls = noNumbers ls
+numbersFitting unknown ls = noNumbers ls
 
 abbrev pub answer : Word → Option (List Lit) → Option Answer
 answer w none = none
@@ -59,7 +59,7 @@ answer w (some ls) = some (record { word = w; numbers = ls })
 
 abbrev pub fitted : Word → Option (List Lit) → Option Answer
 fitted w none = none
-fitted w (some ls) = answer w (fitting w ls)
+fitted w (some ls) = answer w (numbersFitting w ls)
 
 -- "One `s` line comes before any `v` line"; `c` lines stand anywhere
 abbrev pub answerIn : List Line → Option Answer

@@ -72,15 +72,15 @@ abbrev pub CommentLine : List ℕ → Type 0
 CommentLine l = (l ≡ 99 ∷ []) ⊎ ((more : List ℕ) × (l ≡ 99 ∷ 32 ∷ more))
 
 -- "no leading zeros, at most five digits, a minus allowed except on 0"
-abbrev pub Written : Lit → Type 0
-Written (pos n) = n ≤ 99999
-Written (neg n) = (1 ≤ n) × (n ≤ 99999)
+abbrev pub FiveDigits : Lit → Type 0
+FiveDigits (pos n) = n ≤ 99999
+FiveDigits (neg n) = (1 ≤ n) × (n ≤ 99999)
 
 -- "A `v` line is `v` and one or more numbers, one space before each"
 pub record NumbersLine (l : List ℕ) (ks : List Lit) : Type 0 where
   pub some-number : 1 ≤ length ks
   pub bytes : l ≡ 118 ∷ concatMap (λ k. 32 ∷ litText k) ks
-  pub written : Every Written ks
+  pub written : Every FiveDigits ks
 
 -- the kinds of line are told apart by these
 pub record LineExact (l : List ℕ) : Type 0 where

@@ -1,14 +1,12 @@
 -- Questions 12 to 14 of an answer file, and the values that it gives n variables.
 -- Assumes nothing.
-use mathlib.Core.Path.{_≡_}
 use mathlib.Core.Bool.{Bool, true, false, _&&_}
-use mathlib.Core.List.{List, [], _∷_, map}
+use mathlib.Core.List.{List, [], map}
 use mathlib.Core.Option.{Option, none, some}
 use Prim.Native.Nat.{ℕ}
-use lib.ListN.{length, take}
+use lib.ListN.{length}
 use lib.Dec.{eqb, leb}
 use Rattle.lists.specs.List.{filter, any, all, from}
-use Rattle.lists.specs.Question.{firstUnmet}
 use Rattle.planning.specs.Clause.{Lit, pos, neg, variableOf}
 use Rattle.solver.specs.Line.{Word, satisfiable, unsatisfiable, unknown}
 use Rattle.solver.specs.File.{Answer, answerOf}
@@ -63,17 +61,3 @@ truths n ls = map (λ k. any (makesTrue k) ls) (from 1 n)
 
 abbrev pub valuesOf : ℕ → List ℕ → List Bool
 valuesOf n bs = truths n (numbersSaid (answerOf bs))
-
--- "1 if true, 0 if false"
-abbrev pub bit : Bool → ℕ
-bit true = 1
-bit false = 0
-
-abbrev pub bits : List Bool → List ℕ
-bits vs = map bit vs
-
--- Inside the reader: 12 to 14 were put for n variables, r being the number of the first that is not met, or 0; and where all are met the
--- first cells are the values
-pub record Heard (n : ℕ) (bs cells : List ℕ) (r : ℕ) : Type 0 where
-  pub question : r ≡ firstUnmet ((12, met12 bs) ∷ (13, met13 bs) ∷ (14, met14 n bs) ∷ [])
-  pub values : r ≡ 0 → take n cells ≡ bits (valuesOf n bs)

@@ -1,19 +1,22 @@
 -- Inside the reader: an answer read from left to right, with a cell for each variable. Nothing to believe: it is the meaning of the file.
 -- Assumes nothing.
+use mathlib.Core.Path.{_≡_}
 use mathlib.Core.Bool.{Bool, true, false, not, _&&_, _||_, cond}
 use mathlib.Core.List.{List, [], _∷_}
 use mathlib.Core.Option.{Option, none, some}
 use Prim.Native.Nat.{ℕ, _-_}
-use lib.ListN.{length, getD, set, replicate}
+use lib.ListN.{length, getD, take, set, replicate}
 use lib.Dec.{eqb, leb, ltb}
 use Rattle.lists.specs.List.{all}
+use Rattle.lists.specs.Question.{firstUnmet}
 use Rattle.planning.specs.Clause.{Lit, pos, neg, variableOf}
+use Rattle.planning.specs.Model.{bit, bits}
 use Rattle.lines.specs.Bytes.{LF}
 use Rattle.lines.specs.Parts.{split, ended}
 use Rattle.solver.specs.Number.{numberOf}
 use Rattle.solver.specs.Line.{Word, satisfiable, unsatisfiable, unknown, Line, comment, says, sets, unformed, lineOf}
 use Rattle.solver.specs.File.{isZero, allEnded}
-use Rattle.solver.specs.Questions.{bit}
+use Rattle.solver.specs.Questions.{met12, met13, met14, valuesOf}
 
 -- was the 0 read; did a number stand that is of no variable, or of one that stood before; and of each variable its value, or 2 where
 -- it has not stood yet
@@ -112,3 +115,9 @@ readFrom n (l ∷ ls) = fromLine n (lineOf l) (readFrom n ls) ls
 -- an answer for n variables
 unfoldable pub heard : ℕ → List ℕ → ℕ × List ℕ
 heard n bs = cond (leb (length bs) 65536 && allEnded bs) (readFrom n (ended LF bs)) (12, [])
+
+-- 12 to 14 were put for n variables, r being the number of the first that is not met, or 0; and where all are met the
+-- first cells are the values
+pub record Heard (n : ℕ) (bs cells : List ℕ) (r : ℕ) : Type 0 where
+  pub question : r ≡ firstUnmet ((12, met12 bs) ∷ (13, met13 bs) ∷ (14, met14 n bs) ∷ [])
+  pub values : r ≡ 0 → take n cells ≡ bits (valuesOf n bs)

@@ -12,8 +12,7 @@ use mathlib.Core.Path.{sym}
 use lib.Seq.{length-take-le}
 use Rattle.lists.proofs.Written.{wrote-whole}
 use Rattle.sheet.specs.Sheet.{tableIn}
-use Rattle.answer.proofs.Taking.{other-tree, not-heard, not-model, took}
-use Rattle.answer.proofs.Taking.{heard-by, copy-room}
+use Rattle.answer.proofs.Taking.{other-tree, not-heard, not-model, took, heard-by, copy-room}
 
 -- src/lib.rt:43:40
 slice-aggregate-place : tie.Need-slice-aggregate-place

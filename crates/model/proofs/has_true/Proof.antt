@@ -7,9 +7,8 @@ use Rattle.model.proofs.is_true.Reads as is-true-reads
 use mathlib.Core.Path.{_≡_}
 use Prim.Native.Nat.{_-_}
 use lib.ListN.{length}
-use Rattle.planning.specs.Model.{value, clauseTrue}
+use Rattle.planning.specs.Model.{value, clauseTrue, truthsIn}
 use Rattle.writer.specs.Literal.{clauseIn}
-use Rattle.model.specs.Clauses.{truthsIn}
 use Rattle.model.proofs.Values.{trueFrom, true-here, not-here, nowhere}
 
 abbrev Inv-loop : tie.InvT-loop

@@ -8,9 +8,9 @@ use Rattle.cursor.proofs.seek.Reads as seek-reads
 use Rattle.model.proofs.is_satisfied.Reads as is-satisfied-reads
 use lib.ListN.{length}
 use Rattle.lists.proofs.Bool.{said-no, said-yes}
-use Rattle.planning.specs.Model.{value}
+use Rattle.planning.specs.Model.{value, truthsIn}
 use Rattle.sheet.specs.Sheet.{tableIn}
-use Rattle.model.specs.Clauses.{truthsIn, clausesFrom}
+use Rattle.model.specs.Clauses.{clausesFrom}
 use Rattle.model.proofs.Clauses.{Checking, checking-none, checking-off, checking-more, checking-end, fewer}
 
 abbrev Inv-loop : tie.InvT-loop

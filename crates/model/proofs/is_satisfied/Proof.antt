@@ -8,10 +8,10 @@ use Rattle.model.proofs.has_true.Reads as has-true-reads
 use mathlib.Core.Path.{_∙_}
 use lib.Dec.{lit≤}
 use Rattle.lists.proofs.Written.{wrote-count, wrote-room}
-use Rattle.planning.specs.Model.{value}
+use Rattle.planning.specs.Model.{value, truthsIn}
 use Rattle.sheet.specs.Sheet.{tableIn}
 use Rattle.cursor.proofs.Moves.{letter-of}
-use Rattle.model.specs.Clauses.{truthsIn, clauseAt}
+use Rattle.model.specs.Clauses.{clauseAt}
 use Rattle.model.proofs.Clauses.{codes-true}
 
 -- src/lib.rt:62:38

@@ -4,8 +4,7 @@ use Rattle.model.proofs.is_true.Tie as tie
 use Rattle.model.proofs.is_true.Reads as reads
 use Rattle.model.proofs.is_true.Lts as lts
 use Rattle.model.proofs.is_on.Reads as is-on-reads
-use Rattle.planning.specs.Model.{value}
-use Rattle.model.specs.Clauses.{truthsIn}
+use Rattle.planning.specs.Model.{value, truthsIn}
 use Rattle.model.proofs.Values.{plain, negated}
 
 -- src/lib.rt:35:9
