@@ -1,9 +1,6 @@
 // Runs stored cases through the calls of `encoding`. A line for each case of `index`: the case itself, and what the calls hand out
 // and leave in the buffers, as numbers and checksums; behind a case `text` stands the text.
-mod cases;
-mod checksum;
-mod fields;
-mod parts;
+mod calls;
 mod print;
 mod whole;
 
@@ -25,32 +22,32 @@ fn contents(path: &[u8], buf: &mut [u8]) -> usize
 
 fn run(kind: &[u8], file: &[u8], a: usize, b: usize) {
     if check::same(kind, b"text") {
-        cases::text(file);
+        calls::text(file);
     } else if check::same(kind, b"whole") {
         whole::whole(file, a);
     } else if check::same(kind, b"call") {
-        cases::call(file, a, b);
+        calls::call(file, a, b);
     } else if check::same(kind, b"tree") {
-        cases::tree(file, a, b);
+        calls::tree(file, a, b);
     } else if check::same(kind, b"short") {
-        cases::short(file, a);
+        calls::short(file, a);
     } else if check::same(kind, b"check") {
-        cases::check(file);
+        calls::check(file);
     } else if check::same(kind, b"build") {
-        cases::build(file);
+        calls::build(file);
     }
 }
 
 fn run_case(line: &[u8]) {
     // One byte more than a table may have, so that a longer file is seen to be too long and not cut.
     let mut file = [0u8; 65537];
-    let n = contents(fields::field(line, 1), &mut file);
+    let n = contents(cases::field(line, 1), &mut file);
     io::write_all(STDOUT_FILENO, line);
     run(
-        fields::field(line, 0),
+        cases::field(line, 0),
         &file[..n],
-        fields::number(line, 2),
-        fields::number(line, 3),
+        cases::number(line, 2),
+        cases::number(line, 3),
     );
     io::write_all(STDOUT_FILENO, b"\n");
 }
@@ -58,7 +55,7 @@ fn run_case(line: &[u8]) {
 fn run_cases(index: &[u8]) {
     let mut at: usize = 0;
     while at < index.len() {
-        let end = fields::end_of(index, at, b'\n');
+        let end = lines::cut(index, at, index.len(), b'\n');
         run_case(&index[at..end]);
         at = end + 1;
     }

@@ -1,6 +1,5 @@
 // Prints the outcomes of the calls, each value behind a tab.
 // A refusal is the word `refused` and the question's number.
-use crate::parts;
 use encoding::Built;
 use encoding::Checked;
 use encoding::Text;
@@ -21,7 +20,7 @@ pub fn refused(question: usize) {
 }
 
 pub fn part(text: &[u8], length: usize) {
-    let n = parts::bytes_within(length, text);
+    let n = cases::bytes_within(length, text);
     io::write_all(STDOUT_FILENO, &text[..n]);
 }
 

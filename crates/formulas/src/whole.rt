@@ -1,7 +1,5 @@
 // The case `whole`: a whole text, call by call, as a program with a buffer of that length would write it.
 // What it prints of a text but the number of calls is the same for every length of the buffer.
-use crate::checksum;
-use crate::parts;
 use crate::print;
 use encoding::Checked;
 use encoding::Text;
@@ -19,7 +17,7 @@ fn nothing() -> Sum {
         bytes: 0,
         calls: 0,
         next: 0,
-        checksum: checksum::start(),
+        checksum: cases::checksum_start(),
     }
 }
 
@@ -28,7 +26,7 @@ fn with_call(s: Sum, text: &[u8], used: usize, next: usize) -> Sum {
         bytes: std::num::wrapping_add_usize(s.bytes, used),
         calls: std::num::wrapping_add_usize(s.calls, 1),
         next: next,
-        checksum: checksum::fold_part(s.checksum, text, used),
+        checksum: cases::checksum_bytes(s.checksum, text, used),
     }
 }
 
@@ -77,7 +75,7 @@ fn print_whole(file: &[u8], text: &mut [u8]) {
 }
 
 fn whole_into(file: &[u8], buffer: &mut [u8], length: usize) {
-    let n = parts::bytes_within(length, buffer);
+    let n = cases::bytes_within(length, buffer);
     print_whole(file, &mut buffer[..n]);
 }
 

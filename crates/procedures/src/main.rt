@@ -1,9 +1,6 @@
 // Runs stored cases through the calls of `answer`. A line for each case of `index`: the case itself, and what the calls hand out and leave
 // in the buffers; behind it the listing, where there is one.
-mod cases;
-mod checksum;
-mod fields;
-mod parts;
+mod calls;
 mod print;
 
 ghost use Rattle.io.specs.Counts.{Counts};
@@ -24,15 +21,15 @@ fn contents(path: &[u8], buf: &mut [u8]) -> usize
 
 fn run<'a>(kind: &'a [u8], file: &'a [u8], reply: &'a [u8], a: usize, b: usize, c: usize) {
     if check::same(kind, b"plan") {
-        cases::plan(file, reply);
+        calls::plan(file, reply);
     } else if check::same(kind, b"room") {
-        cases::room(file, reply, a, b, c);
+        calls::room(file, reply, a, b, c);
     } else if check::same(kind, b"tree") {
-        cases::tree(file, reply, a);
+        calls::tree(file, reply, a);
     } else if check::same(kind, b"value") {
-        cases::value(file, reply, a, b);
+        calls::value(file, reply, a, b);
     } else if check::same(kind, b"all") {
-        cases::all(file, a);
+        calls::all(file, a);
     } else {
         print::line_end();
     }
@@ -42,23 +39,23 @@ fn run_case(line: &[u8]) {
     // One byte more than either file may have, so that a longer one is seen to be too long and not cut.
     let mut file = [0u8; 65537];
     let mut reply = [0u8; 65537];
-    let n = contents(fields::field(line, 1), &mut file);
-    let m = contents(fields::field(line, 2), &mut reply);
+    let n = contents(cases::field(line, 1), &mut file);
+    let m = contents(cases::field(line, 2), &mut reply);
     io::write_all(STDOUT_FILENO, line);
     run(
-        fields::field(line, 0),
+        cases::field(line, 0),
         &file[..n],
         &reply[..m],
-        fields::number(line, 3),
-        fields::number(line, 4),
-        fields::number(line, 5),
+        cases::number(line, 3),
+        cases::number(line, 4),
+        cases::number(line, 5),
     );
 }
 
 fn run_cases(index: &[u8]) {
     let mut at: usize = 0;
     while at < index.len() {
-        let end = fields::end_of(index, at, b'\n');
+        let end = lines::cut(index, at, index.len(), b'\n');
         run_case(&index[at..end]);
         at = end + 1;
     }

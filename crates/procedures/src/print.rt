@@ -1,7 +1,5 @@
 // Prints the outcomes of the calls and what they leave in the buffer, each value behind a tab.
 // Every byte of the buffer was 7 before: `kept` says that the bytes behind those written are so still, or on a refusal all of them.
-use crate::checksum;
-use crate::parts;
 use answer::Listed;
 use answer::Taken;
 use libc::STDOUT_FILENO;
@@ -41,7 +39,7 @@ pub fn line_end() {
 }
 
 fn part(text: &[u8], length: usize) {
-    let n = parts::bytes_within(length, text);
+    let n = cases::bytes_within(length, text);
     io::write_all(STDOUT_FILENO, &text[..n]);
 }
 
@@ -54,7 +52,7 @@ pub fn taken(outcome: Taken, values: &[u8]) {
         }
         Taken::Values(n) => {
             number(n as u64);
-            number(checksum::of_part(values, n));
+            number(cases::checksum_bytes(cases::checksum_start(), values, n));
             kept_from(values, n);
         }
     }

@@ -15,8 +15,8 @@ abbrev μ-loop : tie.MeasureT-loop
 loop-holds : tie.Need-loop-holds Inv-loop μ-loop
 loop-holds c = search needs
 
-end-of-requires : tie.Need-end-of-requires Inv-loop μ-loop
-end-of-requires c κs = search needs
+cut-requires : tie.Need-cut-requires Inv-loop μ-loop
+cut-requires c κs = search needs
 
 sub-run-case : tie.Need-sub-run-case Inv-loop μ-loop
 sub-run-case c = search needs
@@ -49,7 +49,7 @@ run-cases-spec =
     Inv-loop
     μ-loop
     loop-holds
-    end-of-requires
+    cut-requires
     sub-run-case
     part-run-case-start
     part-run-case-end
