@@ -1,0 +1,121 @@
+//! The five calls with what they are lent. A call that turns something down leaves every buffer as it was.
+
+use crate::answer;
+use crate::formula::{formula, Formula};
+use crate::model::{every_clause_is_satisfied, tree};
+use crate::places::record;
+use crate::procedure::listing;
+use crate::text::lines_that_fit;
+use crate::{question, Outcome};
+
+pub const TREE_WORDS: usize = 1_024 * 5;
+pub const TEXT_BYTES: usize = 1_024;
+pub const VALUES: usize = 8_191;
+pub const LISTING_BYTES: usize = 24_576;
+
+/// The counts of nodes, variables and clauses.
+pub fn check(file: &[u8]) -> Outcome<(usize, usize, usize)> {
+    let formula = formula(file)?;
+    Ok((formula.nodes.len(), formula.variables.count as usize, formula.clauses.len()))
+}
+
+/// The node count, and the table's records in the tree.
+pub fn build(file: &[u8], tree: &mut [u64]) -> Outcome<usize> {
+    question(1, tree.len() >= TREE_WORDS)?;
+    let formula = formula(file)?;
+    let words = words(&formula);
+    tree[..words.len()].copy_from_slice(&words);
+    Ok(formula.nodes.len())
+}
+
+/// The bytes used and the next line.
+pub fn write_text(file: &[u8], tree: &[u64], line: usize, text: &mut [u8]) -> Outcome<(usize, usize)> {
+    question(1, tree.len() >= TREE_WORDS && text.len() >= TEXT_BYTES)?;
+    let formula = with_tree(file, tree)?;
+    let (lines, next) = lines_that_fit(&formula, line, text.len())?;
+    Ok((put(lines.as_bytes(), text), next))
+}
+
+/// How many values were written.
+pub fn take_answer(file: &[u8], tree: &[u64], answer: &[u8], values: &mut [u8]) -> Outcome<usize> {
+    question(1, tree.len() >= TREE_WORDS && values.len() >= VALUES)?;
+    let formula = with_tree(file, tree)?;
+    let taken = answer::values(answer, formula.variables.count)?;
+    every_clause_is_satisfied(&formula, &taken)?;
+    let bytes: Vec<u8> = taken.into_iter().map(u8::from).collect();
+    Ok(put(&bytes, values))
+}
+
+/// The bytes used.
+pub fn list_procedure(file: &[u8], lent: &[u64], values: &[u8], bytes: &mut [u8]) -> Outcome<usize> {
+    question(1, lent.len() >= TREE_WORDS && values.len() >= VALUES && bytes.len() >= LISTING_BYTES)?;
+    let formula = with_tree(file, lent)?;
+    let own = &values[..formula.variables.count as usize];
+    question(14, own.iter().all(|value| *value <= 1))?;
+    let model: Vec<bool> = own.iter().map(|value| *value == 1).collect();
+    every_clause_is_satisfied(&formula, &model)?;
+    Ok(put(listing(&formula.table, &tree(&formula, &model)).as_bytes(), bytes))
+}
+
+fn words(formula: &Formula) -> Vec<u64> {
+    formula.nodes.iter().flat_map(record).collect()
+}
+
+/// Questions 2 to 9, then 10: "Are the first lent tree records, as many as the table has nodes, those of this table?"
+fn with_tree(file: &[u8], tree: &[u64]) -> Outcome<Formula> {
+    let formula = formula(file)?;
+    question(10, tree.starts_with(&words(&formula)))?;
+    Ok(formula)
+}
+
+fn put(bytes: &[u8], buffer: &mut [u8]) -> usize {
+    buffer[..bytes.len()].copy_from_slice(bytes);
+    bytes.len()
+}
+
+#[cfg(test)]
+mod tests {
+    use super::*;
+    use crate::files::{EXAMPLE, EXAMPLE_ANSWER, EXAMPLE_FORMULA, EXAMPLE_LISTING};
+    use crate::Refused;
+
+    fn example_tree() -> Vec<u64> {
+        let mut tree = vec![7; TREE_WORDS];
+        assert_eq!(build(EXAMPLE.as_bytes(), &mut tree), Ok(2));
+        tree
+    }
+
+    #[test]
+    fn the_example_through_the_calls() {
+        let file = EXAMPLE.as_bytes();
+        let tree = example_tree();
+        assert_eq!(check(file), Ok((2, 5, 9)));
+        assert_eq!(tree[..11], [0, 0, 1, 0, 1, 1, 0, 0, 1, 0, 7]);
+        let mut text = [9; TEXT_BYTES];
+        assert_eq!(write_text(file, &tree, 0, &mut text), Ok((EXAMPLE_FORMULA.len(), 10)));
+        assert_eq!(text[..EXAMPLE_FORMULA.len()], *EXAMPLE_FORMULA.as_bytes());
+        assert_eq!(text[EXAMPLE_FORMULA.len()], 9);
+        let mut values = [9; VALUES];
+        assert_eq!(take_answer(file, &tree, EXAMPLE_ANSWER.as_bytes(), &mut values), Ok(5));
+        assert_eq!(values[..6], [1, 1, 1, 0, 1, 9]);
+        let mut bytes = [0; LISTING_BYTES];
+        assert_eq!(list_procedure(file, &tree, &values, &mut bytes), Ok(EXAMPLE_LISTING.len()));
+    }
+
+    #[test]
+    fn what_calls_turn_down() {
+        let file = EXAMPLE.as_bytes();
+        let mut tree = example_tree();
+        let mut text = [9; TEXT_BYTES];
+        assert_eq!(write_text(file, &tree, 0, &mut text[1..]), Err(Refused(1)));
+        assert_eq!(build(b"", &mut [0; TREE_WORDS - 1]), Err(Refused(1)));
+        assert_eq!(write_text(file, &tree, 10, &mut text), Err(Refused(11)));
+        let mut values = [0; VALUES];
+        values[4] = 2;
+        assert_eq!(list_procedure(file, &tree, &values, &mut [0; LISTING_BYTES]), Err(Refused(14)));
+        values[4] = 0;
+        assert_eq!(list_procedure(file, &tree, &values, &mut [0; LISTING_BYTES]), Err(Refused(15)));
+        tree[9] = 1;
+        assert_eq!(write_text(file, &tree, 0, &mut text), Err(Refused(10)));
+    }
+}
