@@ -9,6 +9,7 @@ use lib.Dec.{leb}
 use lib.ListN.{length}
 use Rattle.lists.specs.List.{all}
 use Rattle.answer.proofs.Loops.{binaryFrom, binary-off, binary-more, binary-end}
+use native.Mathlib.Omega.{arith}
 
 abbrev Inv-loop : tie.InvT-loop
 Inv-loop values i₀ i = all (λ v. leb v 1) values ≡ binaryFrom values i
@@ -26,7 +27,7 @@ shared-slice-read-if1 c = search needs
 
 -- src/lib.rt:85:13
 returns : tie.Need-returns Inv-loop μ-loop
-returns c = binary-off (c .before .before .before .before .args .values .now) (c .before .before .loop-test .taken) (c .before .before .before .loop .inv) (c .if1 .taken)
+returns c = binary-off (c .before .before .before .before .args .values .now) (c .before .before .loop-test .taken) (c .before .before .before .loop .inv) (omega (arith, c .if1 .taken))
 
 -- src/lib.rt:87:9
 add-i : tie.Need-add-i Inv-loop μ-loop

@@ -7,6 +7,7 @@ use Rattle.answer.proofs.list_lines.Reads as list-lines-reads
 use Rattle.questions.proofs.prepare.Reads as prepare-reads
 use lib.Dec.{lit≤}
 use Rattle.answer.proofs.Outcomes.{list-short, list-short-tree, list-short-values, list-short-text, list-unmet, list-met}
+use native.Mathlib.Omega.{arith}
 
 -- src/lib.rt:120:9
 returns : tie.Need-returns
@@ -18,7 +19,7 @@ returns-2 c = list-short (c .before .before .before .before .before .before .arg
 
 -- src/lib.rt:126:9
 returns-3 : tie.Need-returns-3
-returns-3 c = list-short (c .before .before .before .before .before .before .before .args .file .now) (c .before .before .before .before .before .before .before .args .tree .now) (c .before .before .before .before .before .before .before .args .values .now) (c .before .before .before .before .before .before .before .args .text .now) (list-short-text (c .before .before .before .before .before .before .before .args .file .now) (c .before .before .before .before .before .before .before .args .tree .now) (c .before .before .before .before .before .before .before .args .values .now) (c .before .before .before .before .before .before .before .args .text .now) (c .if3 .taken))
+returns-3 c = list-short (c .before .before .before .before .before .before .before .args .file .now) (c .before .before .before .before .before .before .before .args .tree .now) (c .before .before .before .before .before .before .before .args .values .now) (c .before .before .before .before .before .before .before .args .text .now) (list-short-text (c .before .before .before .before .before .before .before .args .file .now) (c .before .before .before .before .before .before .before .args .tree .now) (c .before .before .before .before .before .before .before .args .values .now) (c .before .before .before .before .before .before .before .args .text .now) (omega (arith, c .if3 .taken)))
 
 -- src/lib.rt:129:38
 slice-aggregate-prepare : tie.Need-slice-aggregate-prepare

@@ -22,7 +22,7 @@ shared-slice-read-if1 c = lt-le (c .before .loop-test .taken) (c .before .before
 
 -- src/lib.rt:210:13
 returns : tie.Need-returns Inv-loop μ-loop
-returns c = stood-out (c .before .before .before .loop .inv) (c .before .before .before .before .pre) (c .before .before .loop-test .taken) (c .if1 .taken)
+returns c = stood-out (c .before .before .before .loop .inv) (c .before .before .before .before .pre) (c .before .before .loop-test .taken) (omega (arith, c .if1 .taken))
 
 -- src/lib.rt:212:9
 add-i : tie.Need-add-i Inv-loop μ-loop

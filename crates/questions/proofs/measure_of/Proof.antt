@@ -20,7 +20,7 @@ unmet-requires c κs = search needs
 
 -- src/lib.rt:54:9
 returns : tie.Need-returns
-returns c = too-many-nodes (tableIn (c .before .before .before .before .before .args .ws .now)) (c .before .before .before .count-all .ensures) (c .before .if1 .taken) (c .unmet .ensures)
+returns c = too-many-nodes (tableIn (c .before .before .before .before .before .args .ws .now)) (c .before .before .before .count-all .ensures) (omega (arith, c .before .if1 .taken)) (c .unmet .ensures)
 
 -- src/lib.rt:56:28
 add-v : tie.Need-add-v
@@ -44,7 +44,7 @@ unmet-requires-2 c κs = search needs
 
 -- src/lib.rt:58:9
 returns-2 : tie.Need-returns-2
-returns-2 c = too-many-variables (tableIn (c .before .before .before .before .before .before .before .before .before .args .ws .now)) (c .before .before .before .before .before .before .before .count-all .ensures) (c .before .before .before .before .before .if1 .left) (c .before .before .before .facts .ensures) (c .before .if2 .taken) (c .unmet2 .ensures)
+returns-2 c = too-many-variables (tableIn (c .before .before .before .before .before .before .before .before .before .args .ws .now)) (c .before .before .before .before .before .before .before .count-all .ensures) (c .before .before .before .before .before .if1 .left) (c .before .before .before .facts .ensures) (omega (arith, c .before .if2 .taken)) (c .unmet2 .ensures)
 
 -- src/lib.rt:48:1
 returns-3 : tie.Need-returns-3
