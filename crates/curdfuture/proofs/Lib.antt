@@ -1,0 +1,2 @@
+-- how an answer crosses the border
+pub mod Crossing
