@@ -30,6 +30,13 @@ pub fn is_same(s: &[u8], a: usize, b: usize, c: usize, d: usize) -> bool
     if b - a != d - c {
         return false;
     }
+    if a == b {
+        return true;
+    }
+    // Names are often alike but for their ends, as numbered ones are.
+    if s[b - 1] != s[d - 1] {
+        return false;
+    }
     let mut i = a;
     let mut j = c;
     while i < b {

@@ -19,15 +19,20 @@ pub struct Lines {
     pub next: usize,
 }
 
-// The line of the clause at c, where it fits; if not, nothing is written and `at` comes back.
-fn put_line<'a, 'b>(ws: &'a [u64], ix: &'a [u64], text: &'b mut [u8], at: usize, c: Cursor) -> usize
-    requires { ⌜ Indexed (tableIn (now ws)) (now ix) × Holds (tableIn (now ws)) c × (at ≤ length (now text)) ⌝ }
+// The line of the clause at c, where it fits; if not, nothing is written and `at` comes back. Its literals go through `lits`.
+fn put_line<'a, 'b, 'c>(
+    ws: &'a [u64],
+    ix: &'a [u64],
+    lits: &'b mut [u64],
+    text: &'c mut [u8],
+    at: usize,
+    c: Cursor,
+) -> usize
+    requires { ⌜ Indexed (tableIn (now ws)) (now ix) × Holds (tableIn (now ws)) c × (length (now lits) ≡ 136) × (at ≤ length (now text)) ⌝ }
     ensures { λ r. ⌜ Wrote (now (text .entry)) at (ifFits (lineAt (tableIn (now (ws .entry))) c) (now (text .entry)) at) (now (text .exit)) r ⌝ }
 {
-    let mut lits = [0u64; 136];
-    let k = clause::literals(ws, ix, &mut lits, c.rule, c.node, c.group, c.x, c.y, c.i);
-    let n = writer::clause_size(&lits[..k]);
-    if n > text.len() - at {
+    let k = clause::literals(ws, ix, lits, c.rule, c.node, c.group, c.x, c.y, c.i);
+    if !writer::clause_fits(&lits[..k], text.len() - at) {
         return at;
     }
     writer::put_clause(text, at, &lits[..k])
@@ -45,13 +50,14 @@ fn put_lines<'a, 'b>(
     requires { ⌜ Indexed (tableIn (now ws)) (now ix) × In (tableIn (now ws)) c0 × (start ≤ length (now text)) × (j + length (linesFrom (tableIn (now ws)) c0) < 18446744073709551616) ⌝ }
     ensures { λ r. ⌜ Put (linesFrom (tableIn (now (ws .entry))) c0) start j (now (text .entry)) (now (text .exit)) r ⌝ }
 {
+    let mut lits = [0u64; 136];
     let mut c = c0;
     let mut at = start;
     let mut line = j;
     loop {
         match c.next(ws, ix) {
             Next::Clause(p, d) => {
-                let e = put_line(ws, ix, text, at, p);
+                let e = put_line(ws, ix, &mut lits, text, at, p);
                 if e == at {
                     return Lines {
                         used: at,

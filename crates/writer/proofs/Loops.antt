@@ -2,7 +2,7 @@
 -- By the laws of literals and of writes.
 use mathlib.Core.Path.{_≡_, refl, sym, ap, _∙_}
 use mathlib.Core.List.{List, [], _∷_, _++_, append-assoc}
-use Prim.Native.Nat.{ℕ, _+_, _*_, _^_, _≤_, _<_}
+use Prim.Native.Nat.{ℕ, suc, zero, _+_, _*_, _^_, _≤_, _<_}
 use native.Mathlib.Omega.{arith}
 use lib.ListN.{length, getD, take, length-append}
 use lib.Seq.{take-all}
@@ -39,6 +39,19 @@ counted-more {cs} {n} {i} {k} u h f e =
 
 pub counted-all : {cs : List ℕ} {n i : ℕ} → Counted cs n i → length cs ≤ i → n ≡ length (clauseLine (clauseIn cs))
 counted-all {cs} {n} {i} u h = omega (arith, u .count, ap length (all-of cs i h), length-line cs)
+
+-- `clause_fits`: a line is never long
+counted-to : (cs : List ℕ) → ((i : ℕ) → getD cs i 0 < 2 ^ 64) → (i : ℕ) → i ≤ length cs → (n : ℕ) × Counted cs n i
+counted-to cs f zero h = (2, counted-none cs)
+counted-to cs f (suc i) h =
+    let u = counted-to cs f i (omega arith) in
+    let e : i + 1 ≡ suc i = omega arith in
+    (u .0 + length (literal (getD cs i 0)), rw e at (counted-more (u .1) (omega arith) (f i) refl))
+
+pub line-short : (cs : List ℕ) → ((i : ℕ) → getD cs i 0 < 2 ^ 64) → length cs ≤ 136 → length (clauseLine (clauseIn cs)) ≤ 2994
+line-short cs f h =
+    let u = counted-to cs f (length cs) (omega arith) in
+    omega (arith, u .1 .small, counted-all (u .1) (omega arith))
 
 -- `put_clause`: the first i literals are written from place s on, and there is room for the line ---------------------------------
 pub record Laid (cs o₀ : List ℕ) (s : ℕ) (o : List ℕ) (a i : ℕ) : Type 0 where

@@ -38,12 +38,33 @@ decimal-more n h = leb-cases (decimal n ≡ decimal (n / 10) ++ ((48 + n % 10) �
     (λ l e. rw e (digits-append n (n / 10) [] ((48 + n % 10) ∷ [])
     ∙ ap (λ (xs : List ℕ). xs ++ ((48 + n % 10) ∷ [])) (digits-enough n (suc (n / 10)) (n / 10) [] (tenth-less n h) (omega arith))))
 
+-- two digits at once
+pub hundredth-less : (n : ℕ) → 100 ≤ n → n / 100 < n
+hundredth-less n h = div-lt-iff-lt-mul {k = 100} {x = n} {y = n} (omega arith) .1 (omega arith)
+
+pub decimal-two : (n : ℕ) → 10 ≤ n → n < 100 → decimal n ≡ ((48 + n / 10) ∷ []) ++ ((48 + n % 10) ∷ [])
+decimal-two n h l = decimal-more n h ∙ ap (λ (xs : List ℕ). xs ++ ((48 + n % 10) ∷ [])) (decimal-one (n / 10) (omega arith))
+
+pub decimal-hundreds : (n : ℕ) → 100 ≤ n → decimal n ≡ decimal (n / 100) ++ ((48 + n / 10 % 10) ∷ []) ++ ((48 + n % 10) ∷ [])
+decimal-hundreds n h =
+    let q : n / 10 / 10 ≡ n / 100 = omega arith in
+    decimal-more n (omega arith)
+    ∙ ap (λ (xs : List ℕ). xs ++ ((48 + n % 10) ∷ [])) (decimal-more (n / 10) (omega arith) ∙ ap (λ (m : ℕ). decimal m ++ ((48 + n / 10 % 10) ∷ [])) q)
+
 -- How many digits --------------------------------------------------------------------------------------------------------------
 pub length-one : (n : ℕ) → n < 10 → length (decimal n) ≡ 1
 length-one n h = ap length (decimal-one n h)
 
 pub length-more : (n : ℕ) → 10 ≤ n → length (decimal n) ≡ length (decimal (n / 10)) + 1
 length-more n h = ap length (decimal-more n h) ∙ length-append (decimal (n / 10)) ((48 + n % 10) ∷ [])
+
+pub length-two : (n : ℕ) → 10 ≤ n → n < 100 → length (decimal n) ≡ 2
+length-two n h l = ap length (decimal-two n h l)
+
+pub length-hundreds : (n : ℕ) → 100 ≤ n → length (decimal n) ≡ length (decimal (n / 100)) + 2
+length-hundreds n h =
+    let q : n / 10 / 10 ≡ n / 100 = omega arith in
+    omega (arith, length-more n (omega arith), length-more (n / 10) (omega arith), ap (λ (m : ℕ). length (decimal m)) q)
 
 -- a number of 64 binary digits has at most 20
 pub length-most : (n : ℕ) → n < 2 ^ 64 → length (decimal n) ≤ 20

@@ -4,6 +4,7 @@
 ghost use mathlib.Core.Path.{_≡_};
 ghost use mathlib.Core.List.{[], _∷_, _++_};
 ghost use Prim.Native.Nat.{_+_, _≤_, _<_};
+ghost use lib.Dec.{leb};
 ghost use lib.ListN.{length};
 ghost use Rattle.lists.specs.Written.{Wrote};
 ghost use Rattle.planning.specs.Text.{decimal, litText, clauseLine, headerLine};
@@ -42,15 +43,29 @@ pub fn decimal_size(n: u64) -> usize
     decimal_size(n / 10) + 1
 }
 
-pub fn put_decimal(out: &mut [u8], at: usize, n: u64) -> usize
-    requires { ⌜ at + length (decimal n) ≤ length (now out) ⌝ }
+// Those of a number below 100.
+fn put_short(out: &mut [u8], at: usize, n: u64) -> usize
+    requires { ⌜ (n < 100) × (at + length (decimal n) ≤ length (now out)) ⌝ }
     ensures { λ r. ⌜ Wrote (now (out .entry)) at (decimal n) (now (out .exit)) r ⌝ }
 {
     if n < 10 {
         return put_byte(out, at, (48 + n) as u8);
     }
-    let a = put_decimal(out, at, n / 10);
+    let a = put_byte(out, at, (48 + n / 10) as u8);
     put_byte(out, a, (48 + n % 10) as u8)
+}
+
+// Two digits a call: a variable has at most four.
+pub fn put_decimal(out: &mut [u8], at: usize, n: u64) -> usize
+    requires { ⌜ at + length (decimal n) ≤ length (now out) ⌝ }
+    ensures { λ r. ⌜ Wrote (now (out .entry)) at (decimal n) (now (out .exit)) r ⌝ }
+{
+    if n < 100 {
+        return put_short(out, at, n);
+    }
+    let a = put_decimal(out, at, n / 100);
+    let b = put_byte(out, a, (48 + n / 10 % 10) as u8);
+    put_byte(out, b, (48 + n % 10) as u8)
 }
 
 // A literal's number and the space behind it.
@@ -85,6 +100,17 @@ pub fn clause_size(lits: &[u64]) -> usize
         i += 1;
     }
     n
+}
+
+// Has it at most so many bytes? A literal takes at most 22, so it is measured only where they are few.
+pub fn clause_fits(lits: &[u64], room: usize) -> bool
+    requires { ⌜ length (now lits) ≤ 136 ⌝ }
+    ensures { λ r. ⌜ r ≡ leb (length (clauseLine (clauseIn (now (lits .entry))))) room ⌝ }
+{
+    if room >= 3000 {
+        return true;
+    }
+    clause_size(lits) <= room
 }
 
 pub fn put_clause<'a, 'b>(out: &'a mut [u8], at: usize, lits: &'b [u64]) -> usize

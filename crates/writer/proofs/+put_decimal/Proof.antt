@@ -1,19 +1,20 @@
 -- `writer::put_decimal` meets its contract. The measure is the number.
 -- Assumes nothing.
-use mathlib.Core.Path.{sym}
-use Prim.Native.Nat.{ℕ, _<_}
-use native.Mathlib.Omega.{arith}
-use Rattle.lists.proofs.Written.{wrote-append, wrote-same}
-use Rattle.writer.proofs.Numerals.{tenth-less, decimal-one, decimal-more, length-one, length-more}
 use borrow.Author.Needs.{needs}
+use Prim.Native.Nat.{ℕ, _<_}
 use borrow.Fn.Kinds.{In}
 use borrow.Fn.PlainCycle.{Measures, is, falls, and}
 use Rattle.writer.proofs.put_decimal.Reads as put-decimal
 use Rattle.writer.proofs.put_decimal.Kinds as put-decimal-kinds
 use Rattle.writer.proofs.+put_decimal.Lts-put_decimal as put-decimal-lts
 use Rattle.writer.proofs.put_byte.Reads as put-byte-reads
+use Rattle.writer.proofs.put_short.Reads as put-short-reads
 use Rattle.writer.proofs.+put_decimal.{statement}
 use Rattle.writer.proofs.+put_decimal.Tie.{close}
+use mathlib.Core.Path.{sym}
+use native.Mathlib.Omega.{arith}
+use Rattle.lists.proofs.Written.{wrote-append, wrote-same}
+use Rattle.writer.proofs.Numerals.{hundredth-less, decimal-hundreds, length-hundreds}
 
 abbrev μ-put-decimal : Measures 1 put-decimal-kinds.ps ℕ
 μ-put-decimal κs a = a .1 .1 .0
@@ -26,120 +27,156 @@ abbrev put-decimal-below : ℕ → In 1 put-decimal-kinds.ps
 put-decimal-below t =
     and 1 put-decimal-kinds.ps (falls 1 put-decimal-kinds.ps _<_ μ-put-decimal t) put-decimal.Pre
 
-put-decimal-add-put-byte : (t : ℕ) → put-decimal-lts.Need-add-put-byte (
-  put-byte-reads.Asked,
-  put-byte-reads.Learnt,
+-- src/lib.rt:63:9
+put-decimal-put-short-requires : (t : ℕ) → put-decimal-lts.Need-put-short-requires (
+  put-short-reads.Asked,
+  put-short-reads.Learnt,
   put-decimal-below t,
   put-decimal.Post,
-) (put-decimal-at t) put-decimal.Post
-put-decimal-add-put-byte t c = search needs
-
-put-decimal-cast-put-byte : (t : ℕ) → put-decimal-lts.Need-cast-put-byte (
   put-byte-reads.Asked,
   put-byte-reads.Learnt,
-  put-decimal-below t,
-  put-decimal.Post,
 ) (put-decimal-at t) put-decimal.Post
-put-decimal-cast-put-byte t c = search needs
+put-decimal-put-short-requires t c κs = (c .before .if1 .taken, c .before .before .before .pre .1)
 
-put-decimal-put-byte-requires : (t : ℕ) → put-decimal-lts.Need-put-byte-requires (
-  put-byte-reads.Asked,
-  put-byte-reads.Learnt,
-  put-decimal-below t,
-  put-decimal.Post,
-) (put-decimal-at t) put-decimal.Post
-put-decimal-put-byte-requires t c κs = let s = c .before .before .before in omega (arith, s .pre .1, length-one (s .args .n) (c .before .if1 .taken))
-
+-- src/lib.rt:63:9
 put-decimal-same-length : (t : ℕ) → put-decimal-lts.Need-same-length (
-  put-byte-reads.Asked,
-  put-byte-reads.Learnt,
+  put-short-reads.Asked,
+  put-short-reads.Learnt,
   put-decimal-below t,
   put-decimal.Post,
+  put-byte-reads.Asked,
+  put-byte-reads.Learnt,
 ) (put-decimal-at t) put-decimal.Post
 put-decimal-same-length t c = search needs
 
+-- src/lib.rt:63:9
 put-decimal-returns : (t : ℕ) → put-decimal-lts.Need-returns (
-  put-byte-reads.Asked,
-  put-byte-reads.Learnt,
+  put-short-reads.Asked,
+  put-short-reads.Learnt,
   put-decimal-below t,
   put-decimal.Post,
+  put-byte-reads.Asked,
+  put-byte-reads.Learnt,
 ) (put-decimal-at t) put-decimal.Post
-put-decimal-returns t c = wrote-same (sym (decimal-one _ (c .before .before .before .before .if1 .taken))) (c .before .before .put-byte .ensures)
+put-decimal-returns t c = c .before .before .put-short .ensures
 
+-- src/lib.rt:65:9
 put-decimal-put-decimal-requires : (t : ℕ) → put-decimal-lts.Need-put-decimal-requires (
-  put-byte-reads.Asked,
-  put-byte-reads.Learnt,
+  put-short-reads.Asked,
+  put-short-reads.Learnt,
   put-decimal-below t,
   put-decimal.Post,
+  put-byte-reads.Asked,
+  put-byte-reads.Learnt,
 ) (put-decimal-at t) put-decimal.Post
-put-decimal-put-decimal-requires t c κs =
-    let s = c .before .before .before in
-    let h = c .before .if1 .left in
-    (omega (arith, s .pre .0, tenth-less (s .args .n) h), omega (arith, s .pre .1, length-more (s .args .n) h))
+put-decimal-put-decimal-requires t c κs = (omega (arith, c .before .before .before .pre .0, hundredth-less (c .before .before .before .args .n) (c .before .if1 .left)), omega (arith, c .before .before .before .pre .1, length-hundreds (c .before .before .before .args .n) (c .before .if1 .left)))
 
-put-decimal-add-put-byte-2 : (t : ℕ) → put-decimal-lts.Need-add-put-byte-2 (
-  put-byte-reads.Asked,
-  put-byte-reads.Learnt,
+-- src/lib.rt:66:31
+put-decimal-add-put-byte : (t : ℕ) → put-decimal-lts.Need-add-put-byte (
+  put-short-reads.Asked,
+  put-short-reads.Learnt,
   put-decimal-below t,
   put-decimal.Post,
+  put-byte-reads.Asked,
+  put-byte-reads.Learnt,
+) (put-decimal-at t) put-decimal.Post
+put-decimal-add-put-byte t c = search needs
+
+-- src/lib.rt:66:30
+put-decimal-cast-put-byte : (t : ℕ) → put-decimal-lts.Need-cast-put-byte (
+  put-short-reads.Asked,
+  put-short-reads.Learnt,
+  put-decimal-below t,
+  put-decimal.Post,
+  put-byte-reads.Asked,
+  put-byte-reads.Learnt,
+) (put-decimal-at t) put-decimal.Post
+put-decimal-cast-put-byte t c = search needs
+
+-- src/lib.rt:66:9
+put-decimal-put-byte-requires : (t : ℕ) → put-decimal-lts.Need-put-byte-requires (
+  put-short-reads.Asked,
+  put-short-reads.Learnt,
+  put-decimal-below t,
+  put-decimal.Post,
+  put-byte-reads.Asked,
+  put-byte-reads.Learnt,
+) (put-decimal-at t) put-decimal.Post
+put-decimal-put-byte-requires t c κs = omega (arith, c .before .before .before .put-decimal .ensures .end, c .before .before .before .put-decimal .kept .0, c .before .before .before .before .before .before .before .pre .1, length-hundreds (c .before .before .before .before .before .before .before .args .n) (c .before .before .before .before .before .if1 .left))
+
+-- src/lib.rt:67:23
+put-decimal-add-put-byte-2 : (t : ℕ) → put-decimal-lts.Need-add-put-byte-2 (
+  put-short-reads.Asked,
+  put-short-reads.Learnt,
+  put-decimal-below t,
+  put-decimal.Post,
+  put-byte-reads.Asked,
+  put-byte-reads.Learnt,
 ) (put-decimal-at t) put-decimal.Post
 put-decimal-add-put-byte-2 t c = search needs
 
+-- src/lib.rt:67:22
 put-decimal-cast-put-byte-2 : (t : ℕ) → put-decimal-lts.Need-cast-put-byte-2 (
-  put-byte-reads.Asked,
-  put-byte-reads.Learnt,
+  put-short-reads.Asked,
+  put-short-reads.Learnt,
   put-decimal-below t,
   put-decimal.Post,
+  put-byte-reads.Asked,
+  put-byte-reads.Learnt,
 ) (put-decimal-at t) put-decimal.Post
 put-decimal-cast-put-byte-2 t c = search needs
 
+-- src/lib.rt:67:5
 put-decimal-put-byte-requires-2 : (t : ℕ) → put-decimal-lts.Need-put-byte-requires-2 (
-  put-byte-reads.Asked,
-  put-byte-reads.Learnt,
+  put-short-reads.Asked,
+  put-short-reads.Learnt,
   put-decimal-below t,
   put-decimal.Post,
+  put-byte-reads.Asked,
+  put-byte-reads.Learnt,
 ) (put-decimal-at t) put-decimal.Post
-put-decimal-put-byte-requires-2 t c κs =
-    let w = c .before .before .before in
-    let s = w .before .before .before .before in
-    omega (arith, w .put-decimal .ensures .end, w .put-decimal .kept .0, s .pre .1, length-more (s .args .n) (w .before .before .if1 .left))
+put-decimal-put-byte-requires-2 t c κs = omega (arith, c .before .before .before .put-byte .ensures .end, c .before .before .before .put-byte .kept .0, c .before .before .before .before .before .before .before .put-decimal .ensures .end, c .before .before .before .before .before .before .before .put-decimal .kept .0, c .before .before .before .before .before .before .before .before .before .before .before .pre .1, length-hundreds (c .before .before .before .before .before .before .before .before .before .before .before .args .n) (c .before .before .before .before .before .before .before .before .before .if1 .left))
 
+-- src/lib.rt:58:1
 put-decimal-same-length-2 : (t : ℕ) → put-decimal-lts.Need-same-length-2 (
-  put-byte-reads.Asked,
-  put-byte-reads.Learnt,
+  put-short-reads.Asked,
+  put-short-reads.Learnt,
   put-decimal-below t,
   put-decimal.Post,
+  put-byte-reads.Asked,
+  put-byte-reads.Learnt,
 ) (put-decimal-at t) put-decimal.Post
 put-decimal-same-length-2 t c = search needs
 
+-- src/lib.rt:58:1
 put-decimal-returns-2 : (t : ℕ) → put-decimal-lts.Need-returns-2 (
-  put-byte-reads.Asked,
-  put-byte-reads.Learnt,
+  put-short-reads.Asked,
+  put-short-reads.Learnt,
   put-decimal-below t,
   put-decimal.Post,
+  put-byte-reads.Asked,
+  put-byte-reads.Learnt,
 ) (put-decimal-at t) put-decimal.Post
-put-decimal-returns-2 t c =
-    let v = c .before .before in
-    let w = v .before .before .before .before in
-    let s = w .before .before .before .before in
-    wrote-same (sym (decimal-more (s .args .n) (w .before .before .if1 .left)))
-    (wrote-append (omega (arith, s .pre .1)) (w .put-decimal .ensures) (v .put-byte2 .ensures))
+put-decimal-returns-2 t c = wrote-same (sym (decimal-hundreds (c .before .before .before .before .before .before .before .before .before .before .before .before .before .before .args .n) (c .before .before .before .before .before .before .before .before .before .before .before .before .if1 .left))) (wrote-append (omega (arith, c .before .before .before .before .before .before .before .before .before .before .before .before .before .before .pre .1)) (wrote-append (omega (arith, c .before .before .before .before .before .before .before .before .before .before .before .before .before .before .pre .1)) (c .before .before .before .before .before .before .before .before .before .before .put-decimal .ensures) (c .before .before .before .before .before .before .put-byte .ensures)) (c .before .before .put-byte2 .ensures))
 
 pub +put-decimal-spec : {M : Type 1} → statement M
 +put-decimal-spec = close μ-put-decimal λ t. put-decimal-lts.spec (
-  put-byte-reads.Asked,
-  put-byte-reads.Learnt,
+  put-short-reads.Asked,
+  put-short-reads.Learnt,
   put-decimal-below t,
   put-decimal.Post,
+  put-byte-reads.Asked,
+  put-byte-reads.Learnt,
 )
     (put-decimal-at t)
     put-decimal.Post
-    (put-decimal-add-put-byte t)
-    (put-decimal-cast-put-byte t)
-    (put-decimal-put-byte-requires t)
+    (put-decimal-put-short-requires t)
     (put-decimal-same-length t)
     (put-decimal-returns t)
     (put-decimal-put-decimal-requires t)
+    (put-decimal-add-put-byte t)
+    (put-decimal-cast-put-byte t)
+    (put-decimal-put-byte-requires t)
     (put-decimal-add-put-byte-2 t)
     (put-decimal-cast-put-byte-2 t)
     (put-decimal-put-byte-requires-2 t)

@@ -279,7 +279,7 @@ fn add_lines(lines: &mut Lines, letter: &str, count: usize, tail: &str) -> bool 
     let order = "FSTMIR";
     let upto = &order[..=order.find(letter).unwrap_or(0)];
     let at = places(lines, upto).last().map_or(0, |place| place + 1);
-    let job = places(lines, "T").last().map(|place| lines[*place][2..].to_string()).unwrap_or_default();
+    let job = declared(lines, "T").pop().unwrap_or_default();
     for number in have..count {
         let name = if letter == "M" { job.clone() } else { format!("new-{number}") };
         lines.insert(at, format!("{letter}\t{name}{tail}"));

@@ -1,0 +1,283 @@
+//! Measures the linked calls beside Rust: `bench CRATES`, with the folder of the crates, whose stored tables and answers are the inputs. Writes
+//! tables for docs/BENCHMARKS.md. Every contender's result is compared before anything is measured.
+
+use linked::clock::{in_turns, shown, Time, Work};
+use linked::{direct, library};
+use planner::calls::{self as second, TEXT_BYTES, TREE_WORDS, VALUES};
+use planner::dimacs::answer;
+use planner::formula::formula;
+use planner::make::draft::{Draft, DraftStep};
+use planner::text::whole;
+use std::hint::black_box;
+use std::path::{Path, PathBuf};
+
+/// As long as the longest text measured.
+const LARGE_TEXT: usize = 4 << 20;
+
+fn main() {
+    let Some(crates) = std::env::args().nth(1).map(PathBuf::from) else {
+        eprintln!("bench: the folder of the crates is wanted");
+        std::process::exit(1);
+    };
+    let stored = |name: &str| Input::stored(&crates, name);
+    let largest =
+        [stored("formulas/large-wide"), stored("formulas/c313-large-variables-8191"), stored("formulas/c312-large-nodes-1024")];
+    machine();
+    whole_formulas(&largest);
+    text_calls(&largest[0]);
+    answers(&[
+        stored("procedures/wide").with_answer(&crates, "procedures/wide.answer"),
+        stored("procedures/c313-large-variables-8191").with_answer(&crates, "procedures/c313-large-variables-8191.a0-right.answer"),
+    ]);
+    readings(&[stored("tables/edge-bytes-65536"), stored("formulas/c314-large-bytes-65536"), stored("formulas/large-wide")]);
+    growth();
+}
+
+struct Input {
+    name: String,
+    file: Vec<u8>,
+    answer: Vec<u8>,
+}
+
+impl Input {
+    fn stored(crates: &Path, name: &str) -> Input {
+        let (program, table) = name.split_once('/').expect("a crate and a table");
+        let path = crates.join(program).join("data").join(format!("{table}.tab"));
+        Input { name: table.to_string(), file: read(&path), answer: Vec::new() }
+    }
+
+    fn with_answer(mut self, crates: &Path, name: &str) -> Input {
+        let (program, answer) = name.split_once('/').expect("a crate and an answer");
+        self.answer = read(&crates.join(program).join("data").join(answer));
+        self
+    }
+
+    /// Its records, in as many words as a call wants.
+    fn tree(&self) -> Vec<u64> {
+        let mut tree = vec![0; TREE_WORDS];
+        library::build(&self.file, &mut tree).outcome.expect("a table that is measured is accepted");
+        tree
+    }
+
+    fn counts(&self) -> [usize; 3] {
+        library::check(&self.file).outcome.expect("a table that is measured is accepted")
+    }
+}
+
+fn read(path: &Path) -> Vec<u8> {
+    std::fs::read(path).unwrap_or_else(|error| panic!("{}: {error}", path.display()))
+}
+
+fn machine() {
+    let cpu = std::fs::read_to_string("/proc/cpuinfo").unwrap_or_default();
+    let model = cpu.lines().find_map(|line| line.strip_prefix("model name")).unwrap_or("").trim_start_matches([' ', '\t', ':']);
+    let cores = std::thread::available_parallelism().map_or(0, usize::from);
+    println!("One core of {cores}: {model}.");
+}
+
+// Tables of figures
+
+fn title(text: &str, columns: &[&str]) {
+    println!("\n### {text}\n\n| {} |\n|{}", columns.join(" | "), "---|".repeat(columns.len()));
+}
+
+fn row(cells: &[String]) {
+    println!("| {} |", cells.join(" | "));
+}
+
+fn spread(time: Time) -> String {
+    format!("{} ({} to {})", shown(time.median), shown(time.least), shown(time.greatest))
+}
+
+fn ratio(ours: Time, theirs: Time) -> String {
+    format!("{:.2}", ours.median / theirs.median)
+}
+
+fn grouped(number: usize) -> String {
+    let digits = number.to_string();
+    let groups: Vec<&str> = digits.as_bytes().rchunks(3).rev().map(|group| std::str::from_utf8(group).expect("digits")).collect();
+    groups.join(",")
+}
+
+// What is measured
+
+fn whole_formulas(inputs: &[Input]) {
+    let columns = ["table", "variables", "clauses", "bytes", "one text call", "direct Rust", "ratio", "second planner", "ratio", "copying the bytes", "ratio"];
+    title("Whole formula", &columns);
+    for input in inputs {
+        let tree = input.tree();
+        let expected = whole(&formula(&input.file).expect("accepted")).into_bytes();
+        let mut text = vec![0; LARGE_TEXT];
+        let mut own = Vec::with_capacity(LARGE_TEXT);
+        let mut copy = vec![0; LARGE_TEXT];
+        assert_eq!(library::write_text(&input.file, &tree, 0, &mut text).outcome.map(|[used, _]| used), Ok(expected.len()));
+        assert_eq!(text[..expected.len()], expected);
+        direct::write_text(&input.file, 0, LARGE_TEXT, &mut own).expect("accepted");
+        assert_eq!(own, expected);
+        let mut contenders: [Work; 4] = [
+            Box::new(|| _ = black_box(library::write_text(black_box(&input.file), &tree, 0, &mut text))),
+            Box::new(|| _ = black_box(direct::write_text(black_box(&input.file), 0, LARGE_TEXT, &mut own))),
+            Box::new(|| _ = black_box(whole(&formula(black_box(&input.file)).expect("accepted")))),
+            Box::new(|| black_box(&mut copy)[..expected.len()].copy_from_slice(black_box(&expected))),
+        ];
+        let [ours, rust, planner, copied] = in_turns(&mut contenders)[..] else { unreachable!() };
+        let [_, variables, clauses] = input.counts();
+        row(&[
+            input.name.clone(),
+            grouped(variables),
+            grouped(clauses),
+            grouped(expected.len()),
+            spread(ours),
+            shown(rust.median),
+            ratio(ours, rust),
+            shown(planner.median),
+            ratio(ours, planner),
+            shown(copied.median),
+            ratio(ours, copied),
+        ]);
+    }
+}
+
+fn text_calls(input: &Input) {
+    title(&format!("One text call on {}, by its first line", input.name), &["buffer", "line", "bytes used", "text call", "direct Rust", "ratio"]);
+    let tree = input.tree();
+    let [_, _, clauses] = input.counts();
+    for room in [TEXT_BYTES, 65_536] {
+        for line in [0, clauses / 2, clauses] {
+            let mut text = vec![0; room];
+            let mut own = Vec::with_capacity(room + 1_024);
+            let outcome = library::write_text(&input.file, &tree, line, &mut text).outcome;
+            assert_eq!(outcome, direct::write_text(&input.file, line, room, &mut own));
+            let [used, _] = outcome.expect("the line is there");
+            assert_eq!(text[..used], own);
+            let mut contenders: [Work; 2] = [
+                Box::new(|| _ = black_box(library::write_text(black_box(&input.file), &tree, line, &mut text))),
+                Box::new(|| _ = black_box(direct::write_text(black_box(&input.file), line, room, &mut own))),
+            ];
+            let [ours, rust] = in_turns(&mut contenders)[..] else { unreachable!() };
+            row(&[grouped(room), grouped(line), grouped(used), spread(ours), shown(rust.median), ratio(ours, rust)]);
+        }
+    }
+}
+
+fn answers(inputs: &[Input]) {
+    title("Taking an answer", &["table", "variables", "clauses", "answer's bytes", "take_answer", "direct Rust", "ratio", "second planner", "ratio"]);
+    for input in inputs {
+        let tree = input.tree();
+        let [mut values, mut own, mut wanted] = [vec![7; VALUES], vec![7; VALUES], vec![7; VALUES]];
+        let [_, variables, clauses] = input.counts();
+        assert_eq!(library::take_answer(&input.file, &tree, &input.answer, &mut values).outcome, Ok([variables]));
+        assert_eq!(direct::take_answer(&input.file, &input.answer, &mut own), Ok(variables));
+        assert_eq!(second::take_answer(&input.file, &tree, &input.answer, &mut wanted), Ok(variables));
+        assert!(values == own && own == wanted);
+        let mut contenders: [Work; 3] = [
+            Box::new(|| _ = black_box(library::take_answer(black_box(&input.file), &tree, &input.answer, &mut values))),
+            Box::new(|| _ = black_box(direct::take_answer(black_box(&input.file), &input.answer, &mut own))),
+            Box::new(|| _ = black_box(second::take_answer(black_box(&input.file), &tree, &input.answer, &mut wanted))),
+        ];
+        let [ours, rust, planner] = in_turns(&mut contenders)[..] else { unreachable!() };
+        row(&[
+            input.name.clone(),
+            grouped(variables),
+            grouped(clauses),
+            grouped(input.answer.len()),
+            spread(ours),
+            shown(rust.median),
+            ratio(ours, rust),
+            shown(planner.median),
+            ratio(ours, planner),
+        ]);
+    }
+}
+
+fn readings(inputs: &[Input]) {
+    title("Checking a table", &["table", "bytes", "outcome", "check", "direct Rust", "ratio", "second planner", "ratio"]);
+    for input in inputs {
+        let outcome = library::check(&input.file).outcome;
+        assert_eq!(outcome, direct::check(&input.file));
+        assert_eq!(outcome, second::check(&input.file).map(|(nodes, variables, clauses)| [nodes, variables, clauses]));
+        let mut contenders: [Work; 3] = [
+            Box::new(|| _ = black_box(library::check(black_box(&input.file)))),
+            Box::new(|| _ = black_box(direct::check(black_box(&input.file)))),
+            Box::new(|| _ = black_box(second::check(black_box(&input.file)))),
+        ];
+        let [ours, rust, planner] = in_turns(&mut contenders)[..] else { unreachable!() };
+        let told = outcome.map_or_else(|refused| format!("refused {}", refused.0), |[_, _, clauses]| format!("{} clauses", grouped(clauses)));
+        row(&[
+            input.name.clone(),
+            grouped(input.file.len()),
+            told,
+            spread(ours),
+            shown(rust.median),
+            ratio(ours, rust),
+            shown(planner.median),
+            ratio(ours, planner),
+        ]);
+    }
+}
+
+// Growth
+
+/// Jobs in a row of `width` steps each, `jobs` of them below the root, over so many facts: nodes, variables and clauses grow one by one.
+fn grown(jobs: usize, width: usize, facts: usize) -> Input {
+    let names = |kind: &str, count: usize| -> Vec<String> { (0..count).map(|number| format!("{kind}{number}")).collect() };
+    let facts = names("f", facts);
+    let step = |name: String| DraftStep { name, needs: Vec::new(), sets: facts[..facts.len() / 2].to_vec(), clears: facts[facts.len() / 2..].to_vec() };
+    let steps: Vec<DraftStep> = names("s", 8).into_iter().map(step).collect();
+    let mut methods = vec![("root".to_string(), vec!["row".to_string(); jobs])];
+    methods.extend(steps.iter().map(|step| ("row".to_string(), vec![step.name.clone(); width])));
+    let jobs = vec!["root".to_string(), "row".to_string()];
+    let draft = Draft { facts, steps, jobs, methods, start: Vec::new(), root: "root".to_string(), depth: "2".to_string() };
+    let mut input = Input { name: String::new(), file: draft.file(), answer: Vec::new() };
+    input.answer = first_ways(&input.file);
+    input
+}
+
+/// The answer that does every job by its first way; what cannot be given its own value is found by doing the steps.
+fn first_ways(file: &[u8]) -> Vec<u8> {
+    let formula = formula(file).expect("a table that is measured is accepted");
+    let cnf = planner::dimacs::Cnf { variables: formula.variables.count as usize, clauses: formula.clauses };
+    let found = planner::search::models(&cnf, 1, 100_000).models;
+    answer(found.first().expect("a table that is measured has a procedure")).into_bytes()
+}
+
+fn growth() {
+    let columns = ["what grows", "nodes", "variables", "clauses", "bytes of text", "check", "whole text", "ns a byte", "take_answer", "ns a clause"];
+    title("Growth", &columns);
+    let series: [(&str, Vec<(usize, usize, usize)>); 2] = [
+        ("nodes", vec![(1, 8, 8), (2, 8, 8), (4, 8, 8), (8, 8, 8)]),
+        ("facts", vec![(8, 8, 4), (8, 8, 16), (8, 8, 32), (8, 8, 64)]),
+    ];
+    for (what, sizes) in series {
+        for (jobs, width, facts) in sizes {
+            growth_row(what, &grown(jobs, width, facts));
+        }
+    }
+}
+
+fn growth_row(what: &str, input: &Input) {
+    let tree = input.tree();
+    let [nodes, variables, clauses] = input.counts();
+    let mut text = vec![0; LARGE_TEXT];
+    let mut values = vec![0; VALUES];
+    let [used, _] = library::write_text(&input.file, &tree, 0, &mut text).outcome.expect("accepted");
+    assert_eq!(library::take_answer(&input.file, &tree, &input.answer, &mut values).outcome, Ok([variables]));
+    let mut contenders: [Work; 3] = [
+        Box::new(|| _ = black_box(library::check(black_box(&input.file)))),
+        Box::new(|| _ = black_box(library::write_text(black_box(&input.file), &tree, 0, &mut text))),
+        Box::new(|| _ = black_box(library::take_answer(black_box(&input.file), &tree, &input.answer, &mut values))),
+    ];
+    let [checked, written, taken] = in_turns(&mut contenders)[..] else { unreachable!() };
+    row(&[
+        what.to_string(),
+        grouped(nodes),
+        grouped(variables),
+        grouped(clauses),
+        grouped(used),
+        shown(checked.median),
+        shown(written.median),
+        format!("{:.1}", written.median * 1e9 / used as f64),
+        shown(taken.median),
+        format!("{:.0}", taken.median * 1e9 / clauses as f64),
+    ]);
+}

@@ -1,0 +1,22 @@
+//! Holds the linked calls to the second planner: `calls [SEED] [CASES]`. Failing cases are saved.
+
+use linked::calls;
+use planner::random::Random;
+use planner::runs::{scratch, Tally};
+use std::process::ExitCode;
+use std::time::Instant;
+
+fn number(place: usize, otherwise: u64) -> u64 {
+    std::env::args().nth(place).and_then(|argument| argument.parse().ok()).unwrap_or(otherwise)
+}
+
+fn main() -> ExitCode {
+    let seed = number(1, 1);
+    println!("seed {seed}");
+    let mut tally = Tally::new(scratch::failed());
+    let begun = Instant::now();
+    calls::compare(&mut tally, &mut Random::new(seed), number(2, 100_000) as usize);
+    tally.every_question();
+    println!("{:.1} s", begun.elapsed().as_secs_f64());
+    tally.verdict()
+}

@@ -1,0 +1,7 @@
+//! The crates' five calls, linked into one process with the second planner: compared with it call by call (`calls`), and measured beside
+//! it and beside a planner in Rust that is written for speed (`direct`).
+
+pub mod calls;
+pub mod clock;
+pub mod direct;
+pub mod library;
