@@ -3,7 +3,7 @@
 use mathlib.Core.Path.{_≡_, refl, sym, ap, _∙_}
 use mathlib.Core.Bool.{Bool, true}
 use mathlib.Core.List.{List, [], _∷_, _++_, map}
-use Prim.Native.Nat.{ℕ, _+_, _≤_, _<_}
+use Prim.Native.Nat.{ℕ, _+_, _-_, _≤_, _<_}
 use native.Mathlib.Omega.{arith}
 use lib.Dec.{eqb}
 use lib.ListN.{length, getD}
@@ -17,7 +17,9 @@ use Rattle.planning.proofs.Task.{length-tasks}
 use Rattle.places.specs.Flat.{Node, tasksAt, methodVarsAt}
 use Rattle.places.specs.ClausePlace.{methodAt, methodVar, tasksN, slotAt}
 use Rattle.places.specs.Lookup.{litIf}
-use Rattle.index.specs.Index.{source}
+use Rattle.index.specs.Index.{source, meaningsAt, SlotAt}
+use Rattle.shape.specs.Shape.{node, InSlot}
+use Rattle.shape.proofs.Slots.{variable-is, step-at}
 use Rattle.clause.specs.Parts.{codes, moves}
 use Rattle.clause.proofs.Loops.{number-getD, filter-all, Passed, passed-none, passed-room, passed-more, passed-all}
 
@@ -101,3 +103,13 @@ module _ (T : Table) (n f : ℕ) (rising : Bool) where
 
       pub steps-all : k ≤ x → Wrote o₀ s (codes movers) o a
       steps-all h = passed-all moving (slotAt (source T) n) u (omega (arith, e))
+
+-- its first variable is a, at node c; b is the word of variable 1
+module _ {T : Table} {ix : List ℕ} {n c a k x : ℕ} (i : InSlot T ix n) (node-of : SlotAt T n c) (first-of : (a ≡ (node T c) .first) × (1 ≤ a) × (a ≤ 8192)) (size : k ≡ length (slotAt (source T) n)) (h : x < k) where
+  pub slot-variable : (a + x ≡ (getD (slotAt (source T) n) x (0, 0)) .0) × (1 ≤ a + x) × (a + x ≤ 8256)
+  slot-variable = variable-is i node-of (omega (arith, size)) first-of
+
+  pub slot-step : {b s : ℕ} → b ≡ meaningsAt ix → s ≡ getD ix (b + (a - 1) + x) 0 → (s ≡ (getD (slotAt (source T) n) x (0, 0)) .1) × (s < 64)
+  slot-step {b} {s} e q =
+      let z : b + (a - 1) + x ≡ meaningsAt ix + (a + x - 1) = omega (arith, e, first-of .1) in
+      step-at i (omega (arith, size)) (slot-variable .0) (q ∙ ap (λ (j : ℕ). getD ix j 0) z)

@@ -106,12 +106,13 @@ fn put_steps<'a, 'b>(
     ensures { λ r. ⌜ Wrote (now (out .entry)) at (codes (allPos (filter (λ x. movesFact (tableIn (now (ws .entry))) rising f (x .1)) (slotAt (source (tableIn (now (ws .entry)))) n)))) (now (out .exit)) r ⌝ }
 {
     let k = shape::slot_size(ws, ix, n);
+    // The slot's first variable, and the word that says what it stands for: those behind it follow.
+    let v = shape::first(ws, ix, shape::slot_node(ws, ix, n));
+    let m = index::meanings_at(ix) + (v - 1);
     let mut a = at;
     let mut x: usize = 0;
     while x < k {
-        let s = shape::slot_step(ws, ix, n, x);
-        let v = shape::slot_variable(ws, ix, n, x);
-        a = put_if(out, a, v, moves(ws, s, f, rising));
+        a = put_if(out, a, v + x, moves(ws, index::word(ix, m + x), f, rising));
         x += 1;
     }
     a

@@ -59,9 +59,12 @@ nodeWordIn ix n k = getD ix (3 + 15 * n + k) 0
 abbrev pub slotNodeIn : List ℕ → ℕ → ℕ
 slotNodeIn ix k = getD ix (3 + 15 * nodesIn ix + k) 0
 
--- what variable v stands for
+-- the word that says what variable 1 stands for, and what variable v does
+abbrev pub meaningsAt : List ℕ → ℕ
+meaningsAt ix = 3 + 15 * nodesIn ix + slotsIn ix
+
 abbrev pub meaningIn : List ℕ → ℕ → ℕ
-meaningIn ix v = getD ix (3 + 15 * nodesIn ix + slotsIn ix + (v - 1)) 0
+meaningIn ix v = getD ix (meaningsAt ix + (v - 1)) 0
 
 -- no more nodes and slots than there are numbers for
 pub record Few (ix : List ℕ) : Type 0 where

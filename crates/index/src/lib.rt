@@ -2,10 +2,10 @@
 ghost use mathlib.Core.Path.{_≡_};
 ghost use Prim.Native.Nat.{_≤_, _<_};
 ghost use lib.ListN.{getD};
-ghost use Rattle.index.specs.Index.{nodesIn, slotsIn, firstFactIn, nodeWordIn, slotNodeIn, meaningIn, Few};
+ghost use Rattle.index.specs.Index.{nodesIn, slotsIn, firstFactIn, nodeWordIn, slotNodeIn, meaningsAt, meaningIn, Few};
 
 // Word i, or 0 past the last.
-fn word(ix: &[u64], i: usize) -> usize
+pub fn word(ix: &[u64], i: usize) -> usize
     ensures { λ r. ⌜ r ≡ getD (now (ix .entry)) i 0 ⌝ }
 {
     if i < ix.len() { ix[i] as usize } else { 0 }
@@ -46,10 +46,18 @@ pub fn slot_node(ix: &[u64], k: usize) -> usize
     word(ix, 3 + 15 * nodes(ix) + k)
 }
 
+// Where it says what the variables stand for: the word of variable 1.
+pub fn meanings_at(ix: &[u64]) -> usize
+    requires { ⌜ Few (now ix) ⌝ }
+    ensures { λ r. ⌜ (r ≡ meaningsAt (now (ix .entry))) × (r ≤ 16387) ⌝ }
+{
+    3 + 15 * nodes(ix) + slots(ix)
+}
+
 // What variable v stands for: a step, a job or a method, by its number.
 pub fn meaning(ix: &[u64], v: usize) -> usize
     requires { ⌜ Few (now ix) × (1 ≤ v) × (v < 65536) ⌝ }
     ensures { λ r. ⌜ r ≡ meaningIn (now (ix .entry)) v ⌝ }
 {
-    word(ix, 3 + 15 * nodes(ix) + slots(ix) + (v - 1))
+    word(ix, meanings_at(ix) + (v - 1))
 }

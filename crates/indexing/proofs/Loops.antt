@@ -3,6 +3,7 @@
 use mathlib.Core.Path.{_≡_, refl, sym, ap, _∙_}
 use mathlib.Core.Bool.{Bool, true, false, not, cond}
 use mathlib.Core.List.{List, [], _∷_, _++_, append-nil}
+use mathlib.Core.Logic.{⊎-elim}
 use Prim.Native.Nat.{ℕ, zero, suc, _+_, _-_, _/_, _≤_, _<_}
 use native.Mathlib.Omega.{arith}
 use lib.ListN.{length, getD, take, drop, replicate, length-append, length-map, replicate-append-replicate, take-append-drop, drop-of-length-le}
@@ -11,6 +12,7 @@ use Rattle.lists.specs.List.{consIf, filter, concatMap, from, upTo, has}
 use Rattle.lists.specs.Written.{Wrote}
 use Rattle.lists.proofs.Every.{concatMap-append}
 use Rattle.lists.proofs.Number.{length-from}
+use Rattle.lists.proofs.Order.{le-or-lt}
 use Rattle.lists.proofs.Place.{from-add, filter-append}
 use Rattle.lists.proofs.Written.{wrote-none, wrote-append, wrote-same, wrote-length}
 use Rattle.bitset.specs.Set.{contains}
@@ -111,6 +113,23 @@ pub picked-all : {p : ℕ → Bool} {k : ℕ} {o₀ o : List ℕ} {s a m : ℕ} 
 picked-all {p} {k} {o₀} {o} {s} {a} {m} u h =
     let q : m ≡ k = omega (arith, u .at) in
     wrote-same (ap (λ (i : ℕ). filter p (upTo i)) q) (u .text)
+
+length-none : (l : List ℕ) → length l ≡ 0 → l ≡ []
+length-none [] e = refl
+length-none (x ∷ l) e = absurd (omega arith)
+
+-- as many are written as there are: nothing is left to pick
+module _ {p : ℕ → Bool} {k : ℕ} {o₀ o : List ℕ} {s a m e : ℕ} (u : Picked p k o₀ s o a m) (q : e ≡ s + length (filter p (upTo k))) where
+  pub picked-left : a < e → m < k
+  picked-left h = ⊎-elim (λ l. absurd (omega (arith, q, (picked-all u l) .end))) (λ l. l) (le-or-lt k m)
+
+  pub picked-full : e ≤ a → Wrote o₀ s (filter p (upTo k)) o a
+  picked-full h =
+      let z : m + (k - m) ≡ k = omega (arith, u .at) in
+      let all : filter p (upTo k) ≡ filter p (upTo m) ++ filter p (from m (k - m)) = ap (λ (i : ℕ). filter p (upTo i)) (sym z) ∙ picked-next p m (k - m) in
+      let none : filter p (from m (k - m)) ≡ [] =
+      length-none _ (omega (arith, q, u .text .end, ap length all, length-append (filter p (upTo m)) (filter p (from m (k - m))))) in
+      wrote-same (sym (all ∙ ap (λ (l : List ℕ). filter p (upTo m) ++ l) none ∙ append-nil (filter p (upTo m)))) (u .text)
 
 -- below what was looked up
 pub below : {m k l : ℕ} → k ≡ l → m < k → m < l

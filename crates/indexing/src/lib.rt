@@ -93,9 +93,11 @@ fn put_members(out: &mut [u64], at: usize, w: u64) -> usize
     requires { ⌜ at + length (membersIn w) ≤ length (now out) ⌝ }
     ensures { λ r. ⌜ Wrote (now (out .entry)) at (membersIn w) (now (out .exit)) r ⌝ }
 {
+    // Most sets are small: nothing is looked at behind the last member.
+    let e = at + tree::size(w);
     let mut a = at;
     let mut i: usize = 0;
-    while i < 64 {
+    while a < e {
         a = put_if(out, a, tree::holds(w, i), i);
         i += 1;
     }

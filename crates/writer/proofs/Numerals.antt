@@ -1,7 +1,7 @@
 -- Numerals: the last digit of a number behind the digits of its tenth.
 -- By recursion on the digits left.
 use mathlib.Core.Path.{_≡_, refl, ap, _∙_}
-use mathlib.Core.List.{List, [], _∷_, _++_}
+use mathlib.Core.List.{List, [], _∷_, _++_, append-assoc}
 use Prim.Native.Nat.{ℕ, zero, suc, _+_, _/_, _%_, _^_, _≤_, _<_}
 use native.Mathlib.Nat.{div-lt-iff-lt-mul}
 use native.Mathlib.Omega.{arith}
@@ -45,11 +45,12 @@ hundredth-less n h = div-lt-iff-lt-mul {k = 100} {x = n} {y = n} (omega arith) .
 pub decimal-two : (n : ℕ) → 10 ≤ n → n < 100 → decimal n ≡ ((48 + n / 10) ∷ []) ++ ((48 + n % 10) ∷ [])
 decimal-two n h l = decimal-more n h ∙ ap (λ (xs : List ℕ). xs ++ ((48 + n % 10) ∷ [])) (decimal-one (n / 10) (omega arith))
 
-pub decimal-hundreds : (n : ℕ) → 100 ≤ n → decimal n ≡ decimal (n / 100) ++ ((48 + n / 10 % 10) ∷ []) ++ ((48 + n % 10) ∷ [])
+pub decimal-hundreds : (n : ℕ) → 100 ≤ n → decimal n ≡ decimal (n / 100) ++ (((48 + n / 10 % 10) ∷ []) ++ ((48 + n % 10) ∷ []))
 decimal-hundreds n h =
     let q : n / 10 / 10 ≡ n / 100 = omega arith in
     decimal-more n (omega arith)
     ∙ ap (λ (xs : List ℕ). xs ++ ((48 + n % 10) ∷ [])) (decimal-more (n / 10) (omega arith) ∙ ap (λ (m : ℕ). decimal m ++ ((48 + n / 10 % 10) ∷ [])) q)
+    ∙ append-assoc (decimal (n / 100)) ((48 + n / 10 % 10) ∷ []) ((48 + n % 10) ∷ [])
 
 -- How many digits --------------------------------------------------------------------------------------------------------------
 pub length-one : (n : ℕ) → n < 10 → length (decimal n) ≡ 1

@@ -3,7 +3,7 @@
 // number: 2 * v for variable v, 2 * v + 1 for v negated.
 ghost use mathlib.Core.Path.{_≡_};
 ghost use mathlib.Core.List.{[], _∷_, _++_};
-ghost use Prim.Native.Nat.{_+_, _≤_, _<_};
+ghost use Prim.Native.Nat.{_+_, _/_, _%_, _≤_, _<_};
 ghost use lib.Dec.{leb};
 ghost use lib.ListN.{length};
 ghost use Rattle.lists.specs.Written.{Wrote};
@@ -55,7 +55,16 @@ fn put_short(out: &mut [u8], at: usize, n: u64) -> usize
     put_byte(out, a, (48 + n % 10) as u8)
 }
 
-// Two digits a call: a variable has at most four.
+// The last two digits of a number.
+fn put_pair(out: &mut [u8], at: usize, n: u64) -> usize
+    requires { ⌜ at + 2 ≤ length (now out) ⌝ }
+    ensures { λ r. ⌜ Wrote (now (out .entry)) at (((48 + n / 10 % 10) ∷ []) ++ ((48 + n % 10) ∷ [])) (now (out .exit)) r ⌝ }
+{
+    let a = put_byte(out, at, (48 + n / 10 % 10) as u8);
+    put_byte(out, a, (48 + n % 10) as u8)
+}
+
+// A variable has at most four digits, so it takes no second call.
 pub fn put_decimal(out: &mut [u8], at: usize, n: u64) -> usize
     requires { ⌜ at + length (decimal n) ≤ length (now out) ⌝ }
     ensures { λ r. ⌜ Wrote (now (out .entry)) at (decimal n) (now (out .exit)) r ⌝ }
@@ -63,9 +72,12 @@ pub fn put_decimal(out: &mut [u8], at: usize, n: u64) -> usize
     if n < 100 {
         return put_short(out, at, n);
     }
-    let a = put_decimal(out, at, n / 100);
-    let b = put_byte(out, a, (48 + n / 10 % 10) as u8);
-    put_byte(out, b, (48 + n % 10) as u8)
+    if n < 10000 {
+        let a = put_short(out, at, n / 100);
+        return put_pair(out, a, n);
+    }
+    let b = put_decimal(out, at, n / 100);
+    put_pair(out, b, n)
 }
 
 // A literal's number and the space behind it.

@@ -7,7 +7,7 @@ use borrow.Fn.PlainCycle.{Measures, is, falls, and}
 use Rattle.writer.proofs.put_decimal.Reads as put-decimal
 use Rattle.writer.proofs.put_decimal.Kinds as put-decimal-kinds
 use Rattle.writer.proofs.+put_decimal.Lts-put_decimal as put-decimal-lts
-use Rattle.writer.proofs.put_byte.Reads as put-byte-reads
+use Rattle.writer.proofs.put_pair.Reads as put-pair-reads
 use Rattle.writer.proofs.put_short.Reads as put-short-reads
 use Rattle.writer.proofs.+put_decimal.{statement}
 use Rattle.writer.proofs.+put_decimal.Tie.{close}
@@ -27,158 +27,146 @@ abbrev put-decimal-below : ℕ → In 1 put-decimal-kinds.ps
 put-decimal-below t =
     and 1 put-decimal-kinds.ps (falls 1 put-decimal-kinds.ps _<_ μ-put-decimal t) put-decimal.Pre
 
--- src/lib.rt:63:9
+-- src/lib.rt:73:9
 put-decimal-put-short-requires : (t : ℕ) → put-decimal-lts.Need-put-short-requires (
   put-short-reads.Asked,
   put-short-reads.Learnt,
+  put-pair-reads.Asked,
+  put-pair-reads.Learnt,
   put-decimal-below t,
   put-decimal.Post,
-  put-byte-reads.Asked,
-  put-byte-reads.Learnt,
 ) (put-decimal-at t) put-decimal.Post
 put-decimal-put-short-requires t c κs = (c .before .if1 .taken, c .before .before .before .pre .1)
 
--- src/lib.rt:63:9
+-- src/lib.rt:73:9
 put-decimal-same-length : (t : ℕ) → put-decimal-lts.Need-same-length (
   put-short-reads.Asked,
   put-short-reads.Learnt,
+  put-pair-reads.Asked,
+  put-pair-reads.Learnt,
   put-decimal-below t,
   put-decimal.Post,
-  put-byte-reads.Asked,
-  put-byte-reads.Learnt,
 ) (put-decimal-at t) put-decimal.Post
 put-decimal-same-length t c = search needs
 
--- src/lib.rt:63:9
+-- src/lib.rt:73:9
 put-decimal-returns : (t : ℕ) → put-decimal-lts.Need-returns (
   put-short-reads.Asked,
   put-short-reads.Learnt,
+  put-pair-reads.Asked,
+  put-pair-reads.Learnt,
   put-decimal-below t,
   put-decimal.Post,
-  put-byte-reads.Asked,
-  put-byte-reads.Learnt,
 ) (put-decimal-at t) put-decimal.Post
 put-decimal-returns t c = c .before .before .put-short .ensures
 
--- src/lib.rt:65:9
-put-decimal-put-decimal-requires : (t : ℕ) → put-decimal-lts.Need-put-decimal-requires (
+-- src/lib.rt:76:13
+put-decimal-put-short-requires-2 : (t : ℕ) → put-decimal-lts.Need-put-short-requires-2 (
   put-short-reads.Asked,
   put-short-reads.Learnt,
+  put-pair-reads.Asked,
+  put-pair-reads.Learnt,
   put-decimal-below t,
   put-decimal.Post,
-  put-byte-reads.Asked,
-  put-byte-reads.Learnt,
 ) (put-decimal-at t) put-decimal.Post
-put-decimal-put-decimal-requires t c κs = (omega (arith, c .before .before .before .pre .0, hundredth-less (c .before .before .before .args .n) (c .before .if1 .left)), omega (arith, c .before .before .before .pre .1, length-hundreds (c .before .before .before .args .n) (c .before .if1 .left)))
+put-decimal-put-short-requires-2 t c κs = (omega (arith, c .before .if2 .taken), omega (arith, c .before .before .before .before .pre .1, length-hundreds (c .before .before .before .before .args .n) (c .before .before .if1 .left)))
 
--- src/lib.rt:66:31
-put-decimal-add-put-byte : (t : ℕ) → put-decimal-lts.Need-add-put-byte (
+-- src/lib.rt:77:9
+put-decimal-put-pair-requires : (t : ℕ) → put-decimal-lts.Need-put-pair-requires (
   put-short-reads.Asked,
   put-short-reads.Learnt,
+  put-pair-reads.Asked,
+  put-pair-reads.Learnt,
   put-decimal-below t,
   put-decimal.Post,
-  put-byte-reads.Asked,
-  put-byte-reads.Learnt,
 ) (put-decimal-at t) put-decimal.Post
-put-decimal-add-put-byte t c = search needs
+put-decimal-put-pair-requires t c κs = omega (arith, c .before .before .before .put-short2 .ensures .end, c .before .before .before .put-short2 .kept .0, c .before .before .before .before .before .before .before .before .pre .1, length-hundreds (c .before .before .before .before .before .before .before .before .args .n) (c .before .before .before .before .before .before .if1 .left))
 
--- src/lib.rt:66:30
-put-decimal-cast-put-byte : (t : ℕ) → put-decimal-lts.Need-cast-put-byte (
-  put-short-reads.Asked,
-  put-short-reads.Learnt,
-  put-decimal-below t,
-  put-decimal.Post,
-  put-byte-reads.Asked,
-  put-byte-reads.Learnt,
-) (put-decimal-at t) put-decimal.Post
-put-decimal-cast-put-byte t c = search needs
-
--- src/lib.rt:66:9
-put-decimal-put-byte-requires : (t : ℕ) → put-decimal-lts.Need-put-byte-requires (
-  put-short-reads.Asked,
-  put-short-reads.Learnt,
-  put-decimal-below t,
-  put-decimal.Post,
-  put-byte-reads.Asked,
-  put-byte-reads.Learnt,
-) (put-decimal-at t) put-decimal.Post
-put-decimal-put-byte-requires t c κs = omega (arith, c .before .before .before .put-decimal .ensures .end, c .before .before .before .put-decimal .kept .0, c .before .before .before .before .before .before .before .pre .1, length-hundreds (c .before .before .before .before .before .before .before .args .n) (c .before .before .before .before .before .if1 .left))
-
--- src/lib.rt:67:23
-put-decimal-add-put-byte-2 : (t : ℕ) → put-decimal-lts.Need-add-put-byte-2 (
-  put-short-reads.Asked,
-  put-short-reads.Learnt,
-  put-decimal-below t,
-  put-decimal.Post,
-  put-byte-reads.Asked,
-  put-byte-reads.Learnt,
-) (put-decimal-at t) put-decimal.Post
-put-decimal-add-put-byte-2 t c = search needs
-
--- src/lib.rt:67:22
-put-decimal-cast-put-byte-2 : (t : ℕ) → put-decimal-lts.Need-cast-put-byte-2 (
-  put-short-reads.Asked,
-  put-short-reads.Learnt,
-  put-decimal-below t,
-  put-decimal.Post,
-  put-byte-reads.Asked,
-  put-byte-reads.Learnt,
-) (put-decimal-at t) put-decimal.Post
-put-decimal-cast-put-byte-2 t c = search needs
-
--- src/lib.rt:67:5
-put-decimal-put-byte-requires-2 : (t : ℕ) → put-decimal-lts.Need-put-byte-requires-2 (
-  put-short-reads.Asked,
-  put-short-reads.Learnt,
-  put-decimal-below t,
-  put-decimal.Post,
-  put-byte-reads.Asked,
-  put-byte-reads.Learnt,
-) (put-decimal-at t) put-decimal.Post
-put-decimal-put-byte-requires-2 t c κs = omega (arith, c .before .before .before .put-byte .ensures .end, c .before .before .before .put-byte .kept .0, c .before .before .before .before .before .before .before .put-decimal .ensures .end, c .before .before .before .before .before .before .before .put-decimal .kept .0, c .before .before .before .before .before .before .before .before .before .before .before .pre .1, length-hundreds (c .before .before .before .before .before .before .before .before .before .before .before .args .n) (c .before .before .before .before .before .before .before .before .before .if1 .left))
-
--- src/lib.rt:58:1
+-- src/lib.rt:77:9
 put-decimal-same-length-2 : (t : ℕ) → put-decimal-lts.Need-same-length-2 (
   put-short-reads.Asked,
   put-short-reads.Learnt,
+  put-pair-reads.Asked,
+  put-pair-reads.Learnt,
   put-decimal-below t,
   put-decimal.Post,
-  put-byte-reads.Asked,
-  put-byte-reads.Learnt,
 ) (put-decimal-at t) put-decimal.Post
 put-decimal-same-length-2 t c = search needs
 
--- src/lib.rt:58:1
+-- src/lib.rt:77:9
 put-decimal-returns-2 : (t : ℕ) → put-decimal-lts.Need-returns-2 (
   put-short-reads.Asked,
   put-short-reads.Learnt,
+  put-pair-reads.Asked,
+  put-pair-reads.Learnt,
   put-decimal-below t,
   put-decimal.Post,
-  put-byte-reads.Asked,
-  put-byte-reads.Learnt,
 ) (put-decimal-at t) put-decimal.Post
-put-decimal-returns-2 t c = wrote-same (sym (decimal-hundreds (c .before .before .before .before .before .before .before .before .before .before .before .before .before .before .args .n) (c .before .before .before .before .before .before .before .before .before .before .before .before .if1 .left))) (wrote-append (omega (arith, c .before .before .before .before .before .before .before .before .before .before .before .before .before .before .pre .1)) (wrote-append (omega (arith, c .before .before .before .before .before .before .before .before .before .before .before .before .before .before .pre .1)) (c .before .before .before .before .before .before .before .before .before .before .put-decimal .ensures) (c .before .before .before .before .before .before .put-byte .ensures)) (c .before .before .put-byte2 .ensures))
+put-decimal-returns-2 t c = wrote-same (sym (decimal-hundreds (c .before .before .before .before .before .before .before .before .before .before .before .args .n) (c .before .before .before .before .before .before .before .before .before .if1 .left))) (wrote-append (omega (arith, c .before .before .before .before .before .before .before .before .before .before .before .pre .1)) (c .before .before .before .before .before .before .put-short2 .ensures) (c .before .before .put-pair .ensures))
+
+-- src/lib.rt:79:9
+put-decimal-put-decimal-requires : (t : ℕ) → put-decimal-lts.Need-put-decimal-requires (
+  put-short-reads.Asked,
+  put-short-reads.Learnt,
+  put-pair-reads.Asked,
+  put-pair-reads.Learnt,
+  put-decimal-below t,
+  put-decimal.Post,
+) (put-decimal-at t) put-decimal.Post
+put-decimal-put-decimal-requires t c κs = (omega (arith, c .before .before .before .before .pre .0, hundredth-less (c .before .before .before .before .args .n) (c .before .before .if1 .left)), omega (arith, c .before .before .before .before .pre .1, length-hundreds (c .before .before .before .before .args .n) (c .before .before .if1 .left)))
+
+-- src/lib.rt:80:5
+put-decimal-put-pair-requires-2 : (t : ℕ) → put-decimal-lts.Need-put-pair-requires-2 (
+  put-short-reads.Asked,
+  put-short-reads.Learnt,
+  put-pair-reads.Asked,
+  put-pair-reads.Learnt,
+  put-decimal-below t,
+  put-decimal.Post,
+) (put-decimal-at t) put-decimal.Post
+put-decimal-put-pair-requires-2 t c κs = omega (arith, c .before .before .before .put-decimal .ensures .end, c .before .before .before .put-decimal .kept .0, c .before .before .before .before .before .before .before .before .pre .1, length-hundreds (c .before .before .before .before .before .before .before .before .args .n) (c .before .before .before .before .before .before .if1 .left))
+
+-- src/lib.rt:68:1
+put-decimal-same-length-3 : (t : ℕ) → put-decimal-lts.Need-same-length-3 (
+  put-short-reads.Asked,
+  put-short-reads.Learnt,
+  put-pair-reads.Asked,
+  put-pair-reads.Learnt,
+  put-decimal-below t,
+  put-decimal.Post,
+) (put-decimal-at t) put-decimal.Post
+put-decimal-same-length-3 t c = search needs
+
+-- src/lib.rt:68:1
+put-decimal-returns-3 : (t : ℕ) → put-decimal-lts.Need-returns-3 (
+  put-short-reads.Asked,
+  put-short-reads.Learnt,
+  put-pair-reads.Asked,
+  put-pair-reads.Learnt,
+  put-decimal-below t,
+  put-decimal.Post,
+) (put-decimal-at t) put-decimal.Post
+put-decimal-returns-3 t c = wrote-same (sym (decimal-hundreds (c .before .before .before .before .before .before .before .before .before .before .before .args .n) (c .before .before .before .before .before .before .before .before .before .if1 .left))) (wrote-append (omega (arith, c .before .before .before .before .before .before .before .before .before .before .before .pre .1)) (c .before .before .before .before .before .before .put-decimal .ensures) (c .before .before .put-pair2 .ensures))
 
 pub +put-decimal-spec : {M : Type 1} → statement M
 +put-decimal-spec = close μ-put-decimal λ t. put-decimal-lts.spec (
   put-short-reads.Asked,
   put-short-reads.Learnt,
+  put-pair-reads.Asked,
+  put-pair-reads.Learnt,
   put-decimal-below t,
   put-decimal.Post,
-  put-byte-reads.Asked,
-  put-byte-reads.Learnt,
 )
     (put-decimal-at t)
     put-decimal.Post
     (put-decimal-put-short-requires t)
     (put-decimal-same-length t)
     (put-decimal-returns t)
-    (put-decimal-put-decimal-requires t)
-    (put-decimal-add-put-byte t)
-    (put-decimal-cast-put-byte t)
-    (put-decimal-put-byte-requires t)
-    (put-decimal-add-put-byte-2 t)
-    (put-decimal-cast-put-byte-2 t)
-    (put-decimal-put-byte-requires-2 t)
+    (put-decimal-put-short-requires-2 t)
+    (put-decimal-put-pair-requires t)
     (put-decimal-same-length-2 t)
     (put-decimal-returns-2 t)
+    (put-decimal-put-decimal-requires t)
+    (put-decimal-put-pair-requires-2 t)
+    (put-decimal-same-length-3 t)
+    (put-decimal-returns-3 t)
