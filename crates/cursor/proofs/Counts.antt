@@ -93,7 +93,7 @@ pub record SoughtNode (T : Table) (j k : ℕ) (c : Cursor) : Type 0 where
   pub inside : In T c
   pub start : (c .group ≡ 0) × (c .x ≡ 0) × (c .y ≡ 0) × (c .i ≡ 0)
 
-pub sought-start : (T : Table) (j : ℕ) {c : Cursor} → c ≡ ofPos (at 0 0 0 0 0 0) → SoughtNode T j j c
+pub sought-start : (T : Table) (j : ℕ) {c : Cursor} → c ≡ ofPos T (at 0 0 0 0 0 0) → SoughtNode T j j c
 sought-start T j e = rw e (record { seeking = seek-start (source T) j; inside = inl (start-stands T 0 0 (omega arith) (omega arith)); start = (refl, refl, refl, refl) })
 
 pub sought-row : {T : Table} {j k : ℕ} {c : Cursor} → SoughtNode T j k c → SoughtRow T j k c
@@ -110,34 +110,37 @@ sought-past-node {T} {j} {k} {m} {c} {d} s h e l p =
       start = p .start;
     }
 
-module _ {T : Table} {j k m : ℕ} {c : Cursor} (s : SoughtRow T j k c) (e : m ≡ rowLen (source T) (c .rule) (c .node) (c .group) (c .x) (c .y)) where
+module _ {T : Table} {j k : ℕ} {c : Cursor} (s : SoughtRow T j k c) (h : c .rule < 4) where
+  e : c .len ≡ rowLen (source T) (c .rule) (c .node) (c .group) (c .x) (c .y)
+  e = stands-of (s .inside) h .len
+
   here : Seeking (source T) j k (at (c .rule) (c .node) (c .group) (c .x) (c .y) 0)
   here = rw (s .first) at (s .seeking)
 
-  pub sought-past-row : {d : Cursor} → m ≤ k → Moved T c d → SoughtRow T j (k - m) d
+  pub sought-past-row : {d : Cursor} → c .len ≤ k → Moved T c d → SoughtRow T j (k - c .len) d
   sought-past-row {d} l p =
-      let z : 0 + m ≡ rowLen (source T) (c .rule) (c .node) (c .group) (c .x) (c .y) = omega (arith, e) in
-      let y : m + (k - m) ≡ k = omega arith in
-      let q : drop m (left (shape (source T)) (at (c .rule) (c .node) (c .group) (c .x) (c .y) 0)) ≡ leftIn T d =
-      along-row (source T) (c .rule) (c .node) (c .group) (c .x) (c .y) m 0 (omega arith)
+      let z : 0 + c .len ≡ rowLen (source T) (c .rule) (c .node) (c .group) (c .x) (c .y) = omega (arith, e) in
+      let y : c .len + (k - c .len) ≡ k = omega arith in
+      let q : drop (c .len) (left (shape (source T)) (at (c .rule) (c .node) (c .group) (c .x) (c .y) 0)) ≡ leftIn T d =
+      along-row (source T) (c .rule) (c .node) (c .group) (c .x) (c .y) (c .len) 0 (omega (arith, e))
       ∙ ap (λ (i : ℕ). left (shape (source T)) (at (c .rule) (c .node) (c .group) (c .x) (c .y) i)) z ∙ p .same in
       record {
         seeking = record {
-          rest = ap (drop (k - m)) (sym q) ∙ drop-drop (k - m) m (left (shape (source T)) (at (c .rule) (c .node) (c .group) (c .x) (c .y) 0))
+          rest = ap (drop (k - c .len)) (sym q) ∙ drop-drop (k - c .len) (c .len) (left (shape (source T)) (at (c .rule) (c .node) (c .group) (c .x) (c .y) 0))
               ∙ ap (λ (i : ℕ). drop i (left (shape (source T)) (at (c .rule) (c .node) (c .group) (c .x) (c .y) 0))) y ∙ here .rest;
         };
         inside = p .inside;
         first = p .first;
       }
 
-  pub found-here : c .rule < 4 → k < m → Found T j (record { rule = c .rule; node = c .node; group = c .group; x = c .x; y = c .y; i = k })
-  found-here h l =
+  pub found-here : k < c .len → Found T j (record { rule = c .rule; node = c .node; group = c .group; x = c .x; y = c .y; i = k; len = c .len })
+  found-here l =
       let t = stands-of (s .inside) h in
       let z : 0 + k ≡ k = omega arith in
       record {
         same = ap (λ (i : ℕ). left (shape (source T)) (at (c .rule) (c .node) (c .group) (c .x) (c .y) i)) (sym z)
             ∙ sym (along-row (source T) (c .rule) (c .node) (c .group) (c .x) (c .y) k 0 (omega (arith, e))) ∙ here .rest;
-        inside = inl (record { rule = t .rule; node = t .node; group = t .group; x = t .x; y = t .y });
+        inside = inl (record { rule = t .rule; node = t .node; group = t .group; x = t .x; y = t .y; len = t .len });
       }
 
 pub found-end : {T : Table} {j k : ℕ} {c : Cursor} → SoughtRow T j k c → 4 ≤ c .rule → Found T j c

@@ -19,17 +19,17 @@ module _ (T : Table) (c : Cursor) where
   pub handed-clause : (p d : Cursor) → Clause p d ≡ nextOf T c → leftIn T c ≡ posOf p ∷ leftIn T d
   handed-clause p d e = go (leftIn T c) refl e
     where
-      go : (l : List Pos) → leftIn T c ≡ l → Clause p d ≡ answerOf l → leftIn T c ≡ posOf p ∷ leftIn T d
+      go : (l : List Pos) → leftIn T c ≡ l → Clause p d ≡ answerOf T l → leftIn T c ≡ posOf p ∷ leftIn T d
       go [] q f = let z : _≡_ {A = ℕ} 0 1 = cc in absurd (omega arith)
       go (x ∷ xs) q f =
-          let a : p ≡ ofPos x = cc in
-          let b : d ≡ ofPos (after x) = cc in
+          let a : p ≡ ofPos T x = cc in
+          let b : d ≡ ofPos T (after x) = cc in
           let r : leftIn T d ≡ xs = ap (leftIn T) b ∙ left-behind (shape (source T)) (posOf c) x xs q in
           q ∙ ap₂ (λ (m : Cursor) (l : List Pos). posOf m ∷ l) (sym a) (sym r)
 
   pub handed-end : End ≡ nextOf T c → leftIn T c ≡ []
   handed-end e = go (leftIn T c) refl e
     where
-      go : (l : List Pos) → leftIn T c ≡ l → End ≡ answerOf l → leftIn T c ≡ []
+      go : (l : List Pos) → leftIn T c ≡ l → End ≡ answerOf T l → leftIn T c ≡ []
       go [] q f = q
       go (x ∷ xs) q f = let z : _≡_ {A = ℕ} 0 1 = cc in absurd (omega arith)

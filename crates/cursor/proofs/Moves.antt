@@ -49,6 +49,13 @@ nodes-most i (suc (suc zero)) = omega arith
 nodes-most {T} i (suc (suc (suc zero))) = few-slots T (i .accepted)
 nodes-most i (suc (suc (suc (suc r)))) = omega arith
 
+-- the first letter of a node
+pub begins : {T : Table} {ix : List ℕ} {r n : ℕ} → Indexed T ix → r < 4 → n < nodesIn (source T) r → InGroup T ix r n 0
+begins {T} {ix} {r} i h l = record { indexed = i; rule = h; there = l; group = some-letter r }
+
+pub next-letter : {T : Table} {ix : List ℕ} {c : Cursor} {k : ℕ} → Indexed T ix → Stands T c → k ≡ groupsIn (c .rule) → c .group + 1 < k → InGroup T ix (c .rule) (c .node) (c .group + 1)
+next-letter i s e h = record { indexed = i; rule = s .rule; there = s .node; group = omega (arith, e) }
+
 -- What falls -----------------------------------------------------------------------------------------------------------------
 fall-y : (h y : ℕ) → y < 8 → h + (8 - (y + 1)) < h + (8 - y)
 fall-y h y l = omega arith
@@ -74,8 +81,8 @@ unfolding left shape
 left-at-end T = refl
 
 -- A node passed ----------------------------------------------------------------------------------------------------------------
-pub start-stands : (T : Table) (r n : ℕ) → r < 4 → n < nodesIn (source T) r → Stands T (ofPos (at r n 0 0 0 0))
-start-stands T r n h l = record { rule = h; node = l; group = some-letter r; x = omega arith; y = omega arith }
+pub start-stands : (T : Table) (r n : ℕ) → r < 4 → n < nodesIn (source T) r → Stands T (ofPos T (at r n 0 0 0 0))
+start-stands T r n h l = record { rule = h; node = l; group = some-letter r; x = omega arith; y = omega arith; len = refl }
 
 module _ {T : Table} {ix : List ℕ} {c : Cursor} (i : Indexed T ix) (s : Stands T c) where
   few : c .node < 1024
@@ -84,7 +91,7 @@ module _ {T : Table} {ix : List ℕ} {c : Cursor} (i : Indexed T ix) (s : Stands
   low : (1024 - c .node) * 10000000 + ((8 - c .group) * 100000 + ((128 - c .x) * 100 + (8 - c .y))) < 10240812809
   low = omega arith
 
-  pub node-next : {k : ℕ} → k ≡ nodesIn (source T) (c .rule) → c .node + 1 < k → NodePassed T c (ofPos (at (c .rule) (c .node + 1) 0 0 0 0))
+  pub node-next : {k : ℕ} → k ≡ nodesIn (source T) (c .rule) → c .node + 1 < k → NodePassed T c (ofPos T (at (c .rule) (c .node + 1) 0 0 0 0))
   node-next {k} e h = record {
     same = refl;
     less = under ((4 - c .rule) * 100000000000) (fall-n (c .node) ((8 - c .group) * 100000 + ((128 - c .x) * 100 + (8 - c .y))) few);
@@ -107,7 +114,7 @@ module _ {T : Table} {ix : List ℕ} {c : Cursor} (i : Indexed T ix) (s : Stands
     passed : c .rule < 3 → left (shape (source T)) (at (c .rule) (c .node + 1) 0 0 0 0) ≡ left (shape (source T)) (at (c .rule + 1) 0 0 0 0 0)
     passed l = skip-rule (source T) (c .rule) (c .node + 1) (omega (arith, e)) l
 
-    pub rule-next : (c .rule + 1 ≡ 4 → ⊥) → {m : ℕ} → m ≡ nodesIn (source T) (c .rule + 1) → (m ≡ 0 → ⊥) → NodePassed T c (ofPos (at (c .rule + 1) 0 0 0 0 0))
+    pub rule-next : (c .rule + 1 ≡ 4 → ⊥) → {m : ℕ} → m ≡ nodesIn (source T) (c .rule + 1) → (m ≡ 0 → ⊥) → NodePassed T c (ofPos T (at (c .rule + 1) 0 0 0 0 0))
     rule-next u {m} f v =
         let some : 0 < m = ne-lt (omega arith) (λ w. v (sym w)) in
         let l : c .rule < 3 = omega (arith, ne-lt (omega (arith, s .rule)) u) in
@@ -143,33 +150,33 @@ module _ {T : Table} {ix : List ℕ} {c : Cursor} (i : Indexed T ix) (s : Stands
   len = rowLen S (c .rule) (c .node) (c .group) (c .x) (c .y)
 
   pub row-next : {ky : ℕ} → ky ≡ (groupAt S (c .rule) (c .node) (c .group)) .ys → ky ≤ 8 → c .y + 1 < ky
-      → Moved T c (record { rule = c .rule; node = c .node; group = c .group; x = c .x; y = c .y + 1; i = 0 })
+      → Moved T c (ofPos T (at (c .rule) (c .node) (c .group) (c .x) (c .y + 1) 0))
   unfolding shape
   row-next {ky} ys most h = record {
     same = left-row (shape S) (good S) (c .rule) (c .node) (c .group) (c .x) (c .y) len (omega arith);
     less = under ((4 - c .rule) * 100000000000) (under ((1024 - c .node) * 10000000) (under ((8 - c .group) * 100000) (fall-y ((128 - c .x) * 100) (c .y) (omega arith))));
-    inside = inl (record { rule = s .rule; node = s .node; group = s .group; x = s .x; y = omega arith });
+    inside = inl (record { rule = s .rule; node = s .node; group = s .group; x = s .x; y = omega arith; len = refl });
     first = refl;
   }
 
   module _ {ky : ℕ} (ys : ky ≡ (groupAt S (c .rule) (c .node) (c .group)) .ys) (lastY : ky ≤ c .y + 1) where
     pub column-next : {kx : ℕ} → kx ≡ (groupAt S (c .rule) (c .node) (c .group)) .xs → kx ≤ 128 → c .x + 1 < kx
-        → Moved T c (record { rule = c .rule; node = c .node; group = c .group; x = c .x + 1; y = 0; i = 0 })
+        → Moved T c (ofPos T (at (c .rule) (c .node) (c .group) (c .x + 1) 0 0))
     unfolding shape
     column-next {kx} xs most h = record {
       same = left-column (shape S) (good S) (c .rule) (c .node) (c .group) (c .x) (c .y) len (omega arith) (omega (arith, ys));
       less = under ((4 - c .rule) * 100000000000) (under ((1024 - c .node) * 10000000) (under ((8 - c .group) * 100000) (fall-x (c .x) (8 - c .y) (omega arith))));
-      inside = inl (record { rule = s .rule; node = s .node; group = s .group; x = omega arith; y = omega arith });
+      inside = inl (record { rule = s .rule; node = s .node; group = s .group; x = omega arith; y = omega arith; len = refl });
       first = refl;
     }
 
     module _ {kx : ℕ} (xs : kx ≡ (groupAt S (c .rule) (c .node) (c .group)) .xs) (lastX : kx ≤ c .x + 1) {kg : ℕ} (gs : kg ≡ groupsIn (c .rule)) where
-      pub letter-next : c .group + 1 < kg → Moved T c (record { rule = c .rule; node = c .node; group = c .group + 1; x = 0; y = 0; i = 0 })
+      pub letter-next : c .group + 1 < kg → Moved T c (ofPos T (at (c .rule) (c .node) (c .group + 1) 0 0 0))
       unfolding shape
       letter-next h = record {
         same = left-group (shape S) (good S) (c .rule) (c .node) (c .group) (c .x) (c .y) len (omega arith) (omega (arith, ys)) (omega (arith, xs)) (omega (arith, gs));
         less = under ((4 - c .rule) * 100000000000) (under ((1024 - c .node) * 10000000) (fall-g (c .group) ((128 - c .x) * 100 + (8 - c .y)) (omega (arith, s .group, few-letters (c .rule)))));
-        inside = inl (record { rule = s .rule; node = s .node; group = omega (arith, gs); x = omega arith; y = omega arith });
+        inside = inl (record { rule = s .rule; node = s .node; group = omega (arith, gs); x = omega arith; y = omega arith; len = refl });
         first = refl;
       }
 
@@ -192,36 +199,39 @@ pub record Upto (T : Table) (c₀ c : Cursor) : Type 0 where
   pub same : leftIn T c₀ ≡ leftIn T c
   pub inside : In T c
 
-pub upto-move : {T : Table} {c₀ c d : Cursor} {k : ℕ} → Upto T c₀ c → k ≡ rowLen (source T) (c .rule) (c .node) (c .group) (c .x) (c .y) → k ≤ c .i → Moved T c d → Upto T c₀ d
+pub upto-move : {T : Table} {c₀ c d : Cursor} → Upto T c₀ c → c .rule < 4 → c .len ≤ c .i → Moved T c d → Upto T c₀ d
 unfolding shape
-upto-move {T} {c₀} {c} {d} {k} u e h m = record { same = u .same ∙ past ∙ m .same; inside = m .inside }
+upto-move {T} {c₀} {c} {d} u r h m = record { same = u .same ∙ past ∙ m .same; inside = m .inside }
   where
     past : leftIn T c ≡ left (shape (source T)) (rowEnd T c)
     past =
-        left-row (shape (source T)) (good (source T)) (c .rule) (c .node) (c .group) (c .x) (c .y) (c .i) (omega (arith, e))
+        left-row (shape (source T)) (good (source T)) (c .rule) (c .node) (c .group) (c .x) (c .y) (c .i) (omega (arith, stands-of (u .inside) r .len))
         ∙ sym (left-row (shape (source T)) (good (source T)) (c .rule) (c .node) (c .group) (c .x) (c .y) (rowLen (source T) (c .rule) (c .node) (c .group) (c .x) (c .y)) (omega arith))
 
 module _ {T : Table} {c₀ c : Cursor} (u : Upto T c₀ c) where
-  pub hands-out : {k : ℕ} → c .rule < 4 → k ≡ rowLen (source T) (c .rule) (c .node) (c .group) (c .x) (c .y) → c .i < k
-      → (Clause c (record { rule = c .rule; node = c .node; group = c .group; x = c .x; y = c .y; i = c .i + 1 }) ≡ nextOf T c₀)
-      × Handed T (Clause c (record { rule = c .rule; node = c .node; group = c .group; x = c .x; y = c .y; i = c .i + 1 }))
+  -- the place behind c's, in its row
+  abbrev behind : Cursor
+  behind = record { rule = c .rule; node = c .node; group = c .group; x = c .x; y = c .y; i = c .i + 1; len = c .len }
+
+  pub hands-out : c .rule < 4 → c .i < c .len → (Clause c behind ≡ nextOf T c₀) × Handed T (Clause c behind)
   unfolding shape
-  hands-out {k} r e h =
-      let l : c .i < rowLen (source T) (c .rule) (c .node) (c .group) (c .x) (c .y) = omega (arith, e) in
-      let s = stands-of (u .inside) r in (
-        sym (ap answerOf (u .same ∙ left-clause (shape (source T)) (c .rule) (c .node) (c .group) (c .x) (c .y) (c .i) l)),
-        (record { stands = s; clause = l }, inl (record { rule = s .rule; node = s .node; group = s .group; x = s .x; y = s .y })),
+  hands-out r h =
+      let s = stands-of (u .inside) r in
+      let l : c .i < rowLen (source T) (c .rule) (c .node) (c .group) (c .x) (c .y) = omega (arith, s .len) in (
+        ap (λ (k : ℕ). Clause (record { rule = c .rule; node = c .node; group = c .group; x = c .x; y = c .y; i = c .i; len = k }) (record { rule = c .rule; node = c .node; group = c .group; x = c .x; y = c .y; i = c .i + 1; len = k })) (s .len)
+            ∙ sym (ap (answerOf T) (u .same ∙ left-clause (shape (source T)) (c .rule) (c .node) (c .group) (c .x) (c .y) (c .i) l)),
+        (record { stands = s; clause = l }, inl (record { rule = s .rule; node = s .node; group = s .group; x = s .x; y = s .y; len = s .len })),
       )
 
   pub ends : 4 ≤ c .rule → (End ≡ nextOf T c₀) × Handed T End
-  ends h = (sym (ap answerOf (u .same ∙ go (u .inside))), tt)
+  ends h = (sym (ap (answerOf T) (u .same ∙ go (u .inside))), tt)
     where
       go : In T c → leftIn T c ≡ []
       go (inl s) = absurd (omega (arith, s .rule))
       go (inr e) = ap (leftIn T) e ∙ left-at-end T
 
 -- Sums that fit ------------------------------------------------------------------------------------------------------------------
-pub few-after : {T : Table} {ix : List ℕ} {c : Cursor} → Indexed T ix → Stands T c → c .node + 1 < 18446744073709551616
+pub few-after : {T : Table} {ix : List ℕ} {c : Cursor} → Indexed T ix → Stands T c → c .node + 1 ≤ 1024
 few-after {T} {ix} {c} i s = omega (arith, s .node, nodes-most i (c .rule))
 
 pub letters-after : {T : Table} {c : Cursor} → Stands T c → c .group + 1 ≤ 7
@@ -229,3 +239,6 @@ letters-after {T} {c} s = omega (arith, s .group, few-letters (c .rule))
 
 pub next-rule : {T : Table} {c : Cursor} → Stands T c → (c .rule + 1 ≡ 4 → ⊥) → c .rule + 1 < 4
 next-rule s u = ne-lt (omega (arith, s .rule)) u
+
+pub some-node : {k m : ℕ} → k ≡ m → (k ≡ 0 → ⊥) → 0 < m
+some-node {k} e u = omega (arith, e, ne-lt (omega arith) (λ w. u (sym w)))

@@ -15,24 +15,28 @@ use Rattle.cursor.specs.declared.Cursor.{Cursor}
 use Rattle.cursor.specs.declared.Next.{Next}
 use Rattle.cursor.specs.declared.Next.the-variants.{Clause, End}
 
--- a cursor is a place: rule, node, letter, row (x, y) and clause i of the row
+-- how many clauses the row of a place has
+abbrev pub rowOf : Table → Pos → ℕ
+rowOf T p = rowLen (source T) (p .rule) (p .node) (p .group) (p .x) (p .y)
+
+-- a cursor is a place: rule, node, letter, row (x, y) and clause i of the row; and how many clauses the row has
 abbrev pub posOf : Cursor → Pos
 posOf c = at (c .rule) (c .node) (c .group) (c .x) (c .y) (c .i)
 
-abbrev pub ofPos : Pos → Cursor
-ofPos p = record { rule = p .rule; node = p .node; group = p .group; x = p .x; y = p .y; i = p .i }
+abbrev pub ofPos : Table → Pos → Cursor
+ofPos T p = record { rule = p .rule; node = p .node; group = p .group; x = p .x; y = p .y; i = p .i; len = rowOf T p }
 
 -- the places that are left
 abbrev pub leftIn : Table → Cursor → List Pos
 leftIn T c = left (shape (source T)) (posOf c)
 
 -- what the method hands back: the next clause's place and the cursor behind it, or the end
-abbrev pub answerOf : List Pos → Next
-answerOf [] = End
-answerOf (p ∷ ps) = Clause (ofPos p) (ofPos (after p))
+abbrev pub answerOf : Table → List Pos → Next
+answerOf T [] = End
+answerOf T (p ∷ ps) = Clause (ofPos T p) (ofPos T (after p))
 
 abbrev pub nextOf : Table → Cursor → Next
-nextOf T c = answerOf (leftIn T c)
+nextOf T c = answerOf T (leftIn T c)
 
 -- a cursor stands at a letter of a node, or at the end, which is rule 4
 pub record Stands (T : Table) (c : Cursor) : Type 0 where
@@ -41,9 +45,10 @@ pub record Stands (T : Table) (c : Cursor) : Type 0 where
   pub group : c .group < groupsIn (c .rule)
   pub x : c .x ≤ 128
   pub y : c .y ≤ 8
+  pub len : c .len ≡ rowOf T (posOf c)
 
 abbrev pub atEnd : Cursor
-atEnd = record { rule = 4; node = 0; group = 0; x = 0; y = 0; i = 0 }
+atEnd = record { rule = 4; node = 0; group = 0; x = 0; y = 0; i = 0; len = 0 }
 
 abbrev pub In : Table → Cursor → Type 0
 In T c = Stands T c ⊎ (c ≡ atEnd)

@@ -9,9 +9,10 @@ ghost use Rattle.places.specs.Total.{sumTo, countAt, clauseCount};
 ghost use Rattle.sheet.specs.Sheet.{tableIn};
 ghost use Rattle.index.specs.Index.{source};
 ghost use Rattle.shape.specs.Shape.{Indexed, InGroup};
-ghost use Rattle.cursor.specs.Cursor.{ofPos, nextOf, Stands, In, Handed, Moved, NodePassed, columnsCount, SoughtRow, Found};
+ghost use Rattle.cursor.specs.Cursor.{ofPos, atEnd, nextOf, Stands, In, Handed, Moved, NodePassed, columnsCount, SoughtRow, Found};
 
-// A place among the clauses. As a cursor it stands just behind the last clause handed out.
+// A place among the clauses: rule, node, letter, row and clause of the row; and how many clauses the row has, worked out once a row. As a
+// cursor it stands just behind the last clause handed out.
 pub struct Cursor {
     pub rule: usize,
     pub node: usize,
@@ -19,6 +20,7 @@ pub struct Cursor {
     pub x: usize,
     pub y: usize,
     pub i: usize,
+    pub len: usize,
 }
 
 pub enum Next {
@@ -26,29 +28,38 @@ pub enum Next {
     End,
 }
 
-// Where rule r begins at node n.
-fn node_start(r: usize, n: usize) -> Cursor
-    ensures { λ d. ⌜ d ≡ ofPos (at r n 0 0 0 0) ⌝ }
+// Where row (x, y) begins.
+fn row_start(ws: &[u64], ix: &[u64], r: usize, n: usize, g: usize, x: usize, y: usize) -> Cursor
+    requires { ⌜ InGroup (tableIn (now ws)) (now ix) r n g ⌝ }
+    ensures { λ d. ⌜ d ≡ ofPos (tableIn (now (ws .entry))) (at r n g x y 0) ⌝ }
 {
     Cursor {
         rule: r,
         node: n,
+        group: g,
+        x: x,
+        y: y,
+        i: 0,
+        len: shape::row_len(ws, ix, r, n, g, x, y),
+    }
+}
+
+// Behind the last clause.
+fn the_end() -> Cursor
+    ensures { λ d. ⌜ d ≡ atEnd ⌝ }
+{
+    Cursor {
+        rule: 4,
+        node: 0,
         group: 0,
         x: 0,
         y: 0,
         i: 0,
+        len: 0,
     }
 }
 
 impl Cursor {
-    // How many clauses its row has.
-    fn row(self, ws: &[u64], ix: &[u64]) -> usize
-        requires { ⌜ Indexed (tableIn (now ws)) (now ix) × Stands (tableIn (now ws)) self ⌝ }
-        ensures { λ k. ⌜ (k ≡ rowLen (source (tableIn (now (ws .entry)))) (self .rule) (self .node) (self .group) (self .x) (self .y)) × (k ≤ 128) ⌝ }
-    {
-        shape::row_len(ws, ix, self.rule, self.node, self.group, self.x, self.y)
-    }
-
     // The next node's first place.
     fn past_node(self, ws: &[u64], ix: &[u64]) -> Cursor
         requires { ⌜ Indexed (tableIn (now ws)) (now ix) × Stands (tableIn (now ws)) self ⌝ }
@@ -56,16 +67,16 @@ impl Cursor {
     {
         let n = self.node + 1;
         if n < shape::nodes_in(ws, ix, self.rule) {
-            return node_start(self.rule, n);
+            return row_start(ws, ix, self.rule, n, 0, 0, 0);
         }
         let r = self.rule + 1;
         if r == 4 {
-            return node_start(4, 0);
+            return the_end();
         }
         if shape::nodes_in(ws, ix, r) == 0 {
-            return node_start(4, 0);
+            return the_end();
         }
-        node_start(r, 0)
+        row_start(ws, ix, r, 0, 0, 0, 0)
     }
 
     // The next row's first place.
@@ -74,34 +85,13 @@ impl Cursor {
         ensures { λ d. ⌜ Moved (tableIn (now (ws .entry))) self d ⌝ }
     {
         if self.y + 1 < shape::ys_in(ws, ix, self.rule, self.node, self.group) {
-            return Cursor {
-                rule: self.rule,
-                node: self.node,
-                group: self.group,
-                x: self.x,
-                y: self.y + 1,
-                i: 0,
-            };
+            return row_start(ws, ix, self.rule, self.node, self.group, self.x, self.y + 1);
         }
         if self.x + 1 < shape::xs_in(ws, ix, self.rule, self.node, self.group) {
-            return Cursor {
-                rule: self.rule,
-                node: self.node,
-                group: self.group,
-                x: self.x + 1,
-                y: 0,
-                i: 0,
-            };
+            return row_start(ws, ix, self.rule, self.node, self.group, self.x + 1, 0);
         }
         if self.group + 1 < shape::groups_in(self.rule) {
-            return Cursor {
-                rule: self.rule,
-                node: self.node,
-                group: self.group + 1,
-                x: 0,
-                y: 0,
-                i: 0,
-            };
+            return row_start(ws, ix, self.rule, self.node, self.group + 1, 0, 0);
         }
         self.past_node(ws, ix)
     }
@@ -113,7 +103,7 @@ impl Cursor {
     {
         let mut c = self;
         while c.rule < 4 {
-            if c.i < c.row(ws, ix) {
+            if c.i < c.len {
                 return Next::Clause(
                     c,
                     Cursor {
@@ -123,6 +113,7 @@ impl Cursor {
                         x: c.x,
                         y: c.y,
                         i: c.i + 1,
+                        len: c.len,
                     },
                 );
             }
@@ -210,7 +201,7 @@ fn seek_node(ws: &[u64], ix: &[u64], j: usize) -> Sought
     requires { ⌜ Indexed (tableIn (now ws)) (now ix) ⌝ }
     ensures { λ r. ⌜ SoughtRow (tableIn (now (ws .entry))) j (r .left) (r .cursor) ⌝ }
 {
-    let mut c = node_start(0, 0);
+    let mut c = row_start(ws, ix, 0, 0, 0, 0, 0);
     let mut k = j;
     while c.rule < 4 {
         let m = count_node(ws, ix, c.rule, c.node);
@@ -231,7 +222,7 @@ fn seek_row(ws: &[u64], ix: &[u64], s: Sought, j: usize) -> Cursor
     let mut c = s.cursor;
     let mut k = s.left;
     while c.rule < 4 {
-        let m = c.row(ws, ix);
+        let m = c.len;
         if k < m {
             return Cursor {
                 rule: c.rule,
@@ -240,6 +231,7 @@ fn seek_row(ws: &[u64], ix: &[u64], s: Sought, j: usize) -> Cursor
                 x: c.x,
                 y: c.y,
                 i: k,
+                len: m,
             };
         }
         k -= m;
