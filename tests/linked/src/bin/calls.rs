@@ -1,4 +1,5 @@
-//! Holds the linked calls to the second planner: `calls [SEED] [CASES]`. Failing cases are saved.
+//! Holds the linked calls to the second planner: `calls [SEED] [THOUSANDS]`, with a seed for the cases and how many thousands there are.
+//! Failing cases are saved.
 
 use linked::calls;
 use planner::random::Random;
@@ -15,7 +16,7 @@ fn main() -> ExitCode {
     println!("seed {seed}");
     let mut tally = Tally::new(scratch::failed());
     let begun = Instant::now();
-    calls::compare(&mut tally, &mut Random::new(seed), number(2, 100_000) as usize);
+    calls::compare(&mut tally, &mut Random::new(seed), 1_000 * number(2, 200) as usize);
     tally.every_question();
     println!("{:.1} s", begun.elapsed().as_secs_f64());
     tally.verdict()
