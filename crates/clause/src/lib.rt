@@ -1,6 +1,6 @@
 // The literals of one clause, by its place, written as numbers: 2 * v for variable v, 2 * v + 1 for v negated. `ws` is the table's
 // sheet and `ix` its index.
-mod lookup;
+pub mod lookup;
 mod nodes;
 mod slots;
 mod write;

@@ -80,7 +80,7 @@ impl Cursor {
     }
 
     // The next row's first place.
-    fn past_row(self, ws: &[u64], ix: &[u64]) -> Cursor
+    pub fn past_row(self, ws: &[u64], ix: &[u64]) -> Cursor
         requires { ⌜ Indexed (tableIn (now ws)) (now ix) × Stands (tableIn (now ws)) self ⌝ }
         ensures { λ d. ⌜ Moved (tableIn (now (ws .entry))) self d ⌝ }
     {

@@ -1,3 +1,4 @@
 -- Laws, by topic.
 pub mod Values
 pub mod Clauses
+pub mod Satisfied

@@ -1,15 +1,17 @@
 -- A variable's value, a literal's and a clause's, from values of 0 and 1.
 -- By the definition of the values, and by recursion on the literals.
 use mathlib.Core.Path.{_≡_, refl, sym, ap, _∙_}
-use mathlib.Core.Bool.{Bool, true, false, not, _||_, cond}
-use mathlib.Core.List.{List, [], _∷_, map}
+use mathlib.Core.Bool.{Bool, true, false, not, _||_}
+use mathlib.Core.List.{List, _∷_}
 use Prim.Native.Nat.{ℕ, zero, suc, _+_, _-_, _%_, _/_, _≤_, _<_}
 use native.Mathlib.Omega.{arith}
 use lib.Dec.{eqb}
 use lib.ListN.{length, getD, drop, drop-of-length-le, List·getD-map, List·getD-eq-default}
 use lib.Seq.{drop-cons}
-use Rattle.lists.proofs.Bool.{eqb-other}
-use Rattle.planning.specs.Clause.{Clause, Lit, pos, neg}
+use Rattle.lists.specs.List.{any, from}
+use Rattle.lists.proofs.Bool.{eqb-other, false-of, clash}
+use Rattle.lists.proofs.Member.{any-in}
+use Rattle.lists.proofs.Number.{from-in}
 use Rattle.planning.specs.Model.{Valuation, value, litTrue, clauseTrue, truthsIn}
 use Rattle.writer.specs.Literal.{litIn, clauseIn}
 
@@ -61,3 +63,29 @@ module _ (v : Valuation) (cs : List ℕ) where
 
   pub nowhere : {i : ℕ} → length cs ≤ i → clauseTrue v (clauseIn cs) ≡ trueFrom i → false ≡ clauseTrue v (clauseIn cs)
   nowhere {i} h e = sym (e ∙ ap (λ (l : List ℕ). clauseTrue v (clauseIn l)) (drop-of-length-le cs {i = i} h))
+
+-- Variables in a row -----------------------------------------------------------------------------------------------------------------
+module _ (v : Valuation) (a k : ℕ) where
+  -- whether one of the k variables from a on is true, but for the first i
+  abbrev pub onFrom : ℕ → Bool
+  onFrom i = any v (from (a + i) (k - i))
+
+  pub on-first : any v (from a k) ≡ onFrom 0
+  on-first = let p : a + 0 ≡ a = omega arith in let q : k - 0 ≡ k = omega arith in rw (p, q)
+
+  one-on : (i : ℕ) → i < k → onFrom i ≡ (v (a + i) || onFrom (i + 1))
+  one-on i h = let p : k - i ≡ suc (k - (i + 1)) = omega arith in let q : a + (i + 1) ≡ suc (a + i) = omega arith in rw (p, q)
+
+  module _ {i : ℕ} (e : any v (from a k) ≡ onFrom i) where
+    pub on-here : {b : Bool} → i < k → b ≡ v (a + i) → b ≡ true → true ≡ any v (from a k)
+    on-here h q y = sym (e ∙ one-on i h ∙ rw (sym q ∙ y))
+
+    pub off-here : {b : Bool} → i < k → b ≡ v (a + i) → b ≡ false → any v (from a k) ≡ onFrom (i + 1)
+    off-here h q n = e ∙ one-on i h ∙ rw (sym q ∙ n)
+
+    pub off-all : k ≤ i → false ≡ any v (from a k)
+    off-all h = let z : k - i ≡ 0 = omega arith in sym (e ∙ rw z)
+
+  -- where none is, each is false
+  pub each-off : any v (from a k) ≡ false → (j : ℕ) → j < k → v (a + j) ≡ false
+  each-off e j h = false-of (v (a + j)) (λ t. clash (any-in v (from a k) (a + j) (from-in (a + j) a k (omega arith) (omega arith)) t) e)

@@ -1,9 +1,8 @@
 // Question 15: is every clause satisfied by these values? `ws` is the table's sheet and `ix` its index. Variable v's value stands at
 // place v - 1: 1 if it is true.
+mod row;
+
 ghost use mathlib.Core.Path.{_≡_};
-ghost use mathlib.Core.List.{map};
-ghost use Prim.Native.Nat.{_≤_};
-ghost use lib.Dec.{eqb};
 ghost use lib.ListN.{length};
 ghost use Rattle.planning.specs.Clause.{formula};
 ghost use Rattle.planning.specs.Model.{value, litTrue, clauseTrue, satisfies, truthsIn};
@@ -53,26 +52,36 @@ fn has_true<'a>(values: &'a [u8], lits: &'a [u64]) -> bool
     false
 }
 
-// Is the clause at c satisfied?
-fn is_satisfied<'a>(ws: &'a [u64], ix: &'a [u64], values: &'a [u8], c: Cursor) -> bool
-    requires { ⌜ Indexed (tableIn (now ws)) (now ix) × Holds (tableIn (now ws)) c ⌝ }
+// Is the clause at c satisfied? Its literals go through `lits`.
+fn is_satisfied<'a, 'b>(
+    ws: &'a [u64],
+    ix: &'a [u64],
+    values: &'a [u8],
+    lits: &'b mut [u64],
+    c: Cursor,
+) -> bool
+    requires { ⌜ Indexed (tableIn (now ws)) (now ix) × Holds (tableIn (now ws)) c × (length (now lits) ≡ 136) ⌝ }
     ensures { λ r. ⌜ r ≡ clauseTrue (value (truthsIn (now (values .entry)))) (clauseAt (tableIn (now (ws .entry))) c) ⌝ }
 {
-    let mut lits = [0u64; 136];
-    let k = clause::literals(ws, ix, &mut lits, c.rule, c.node, c.group, c.x, c.y, c.i);
+    let k = clause::literals(ws, ix, lits, c.rule, c.node, c.group, c.x, c.y, c.i);
     has_true(values, &lits[..k])
 }
 
-// Is every clause?
+// Is every clause? A row that is seen to be satisfied is passed over whole.
 pub fn is_model<'a>(ws: &'a [u64], ix: &'a [u64], values: &'a [u8]) -> bool
     requires { ⌜ Indexed (tableIn (now ws)) (now ix) ⌝ }
     ensures { λ r. ⌜ r ≡ satisfies (value (truthsIn (now (values .entry)))) (formula (tableIn (now (ws .entry)))) ⌝ }
 {
+    let mut lits = [0u64; 136];
     let mut c = cursor::seek(ws, ix, 0);
     loop {
         match c.next(ws, ix) {
             Next::Clause(p, d) => {
-                if !is_satisfied(ws, ix, values, p) {
+                if row::row_holds(ws, ix, values, p) {
+                    c = p.past_row(ws, ix);
+                    continue;
+                }
+                if !is_satisfied(ws, ix, values, &mut lits, p) {
                     return false;
                 }
                 c = d;

@@ -1,9 +1,6 @@
 use borrow.Author.Needs.{needs}
 use Rattle.model.proofs.has_true.Statement.{statement}
 use Rattle.model.proofs.has_true.Tie as tie
-use Rattle.model.proofs.has_true.Reads as reads
-use Rattle.model.proofs.has_true.Lts as lts
-use Rattle.model.proofs.is_true.Reads as is-true-reads
 use mathlib.Core.Path.{_≡_}
 use Prim.Native.Nat.{_-_}
 use lib.ListN.{length}
@@ -17,39 +14,30 @@ Inv-loop values lits i₀ i = clauseTrue (value (truthsIn values)) (clauseIn lit
 abbrev μ-loop : tie.MeasureT-loop
 μ-loop values lits i₀ i = length lits - i
 
--- src/lib.rt:47:5
 loop-holds : tie.Need-loop-holds Inv-loop μ-loop
 loop-holds c = search needs
 
--- src/lib.rt:48:28
 mul-is-true : tie.Need-mul-is-true Inv-loop μ-loop
 mul-is-true c = search needs
 
--- src/lib.rt:48:28
 shared-slice-read-is-true : tie.Need-shared-slice-read-is-true Inv-loop μ-loop
 shared-slice-read-is-true c = search needs
 
--- src/lib.rt:48:12
 is-true-requires : tie.Need-is-true-requires Inv-loop μ-loop
 is-true-requires c κs = search needs
 
--- src/lib.rt:49:13
 returns : tie.Need-returns Inv-loop μ-loop
 returns c = true-here (value (truthsIn (c .before .before .before .before .before .before .before .args .values .now))) (c .before .before .before .before .before .before .before .args .lits .now) (c .before .before .before .loop-test .taken) (c .before .before .before .before .loop .inv) (c .before .is-true .ensures) (c .if1 .taken)
 
--- src/lib.rt:51:9
 add-i : tie.Need-add-i Inv-loop μ-loop
 add-i c = search needs
 
--- src/lib.rt:47:5
 loop-less : tie.Need-loop-less Inv-loop μ-loop
 loop-less c = search needs
 
--- src/lib.rt:47:5
 loop-again : tie.Need-loop-again Inv-loop μ-loop
 loop-again c = not-here (value (truthsIn (c .before .before .before .before .before .before .before .args .values .now))) (c .before .before .before .before .before .before .before .args .lits .now) (c .before .before .before .loop-test .taken) (c .before .before .before .before .loop .inv) (c .before .is-true .ensures) (c .if1 .left)
 
--- src/lib.rt:43:1
 returns-2 : tie.Need-returns-2 Inv-loop μ-loop
 returns-2 c = nowhere (value (truthsIn (c .before .before .before .before .args .values .now))) (c .before .before .before .before .args .lits .now) (c .loop-test .left) (c .before .loop .inv)
 
