@@ -33,10 +33,10 @@ module _ (T : Table) (c : Cursor) where
   unfolding shape
   handed-place p d e h = go (leftIn T c) refl e
     where
-      go : (l : List Pos) → leftIn T c ≡ l → Clause p d ≡ answerOf l → leftIn T c ≡ leftIn T p
+      go : (l : List Pos) → leftIn T c ≡ l → Clause p d ≡ answerOf T l → leftIn T c ≡ leftIn T p
       go [] q f = let z : _≡_ {A = ℕ} 0 1 = cc in absurd (omega arith)
       go (x ∷ xs) q f =
-          let a : p ≡ ofPos x = cc in
+          let a : p ≡ ofPos T x = cc in
           q ∙ sym (left-clause (shape (source T)) (p .rule) (p .node) (p .group) (p .x) (p .y) (p .i) (h .clause)
           ∙ ap (λ (m : Cursor). posOf m ∷ left (shape (source T)) (after (posOf m))) a ∙ ap (λ (l : List Pos). x ∷ l) (left-behind (shape (source T)) (posOf c) x xs q))
 
