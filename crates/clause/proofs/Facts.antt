@@ -1,18 +1,17 @@
 -- Fact variables, and the facts that steps need, set and drop.
 -- By the laws of the index and of sets.
-use mathlib.Core.Path.{_≡_, sym, ap, _∙_}
+use mathlib.Core.Path.{_≡_, refl, sym, ap, _∙_}
 use mathlib.Core.Bool.{Bool, true, false}
-use mathlib.Core.List.{List}
-use Prim.Native.Nat.{ℕ, _+_, _*_, _≤_, _<_}
+use mathlib.Core.List.{List, [], _∷_, _++_, append-nil}
+use Prim.Native.Nat.{ℕ, suc, _+_, _-_, _*_, _/_, _≤_, _<_}
 use native.Mathlib.Nat.{mul-le-mul-right}
 use native.Mathlib.Omega.{arith}
-use lib.ListN.{length, getD, drop, List·getD-append}
-use lib.Seq.{take-all}
-use Rattle.lists.specs.List.{has}
+use lib.ListN.{length, getD, length-append}
+use lib.Seq.{getD-append-seam}
+use Rattle.lists.specs.List.{consIf, filter, from, has}
 use Rattle.lists.proofs.Bool.{and-off, and-on}
-use Rattle.lists.proofs.Member.{in-getD}
-use Rattle.lists.proofs.Rising.{rising-range}
-use Rattle.bitset.specs.Set.{contains, membersBelow, members, Listed}
+use Rattle.lists.proofs.Place.{filter-split}
+use Rattle.bitset.specs.Set.{contains, membersBelow, members}
 use Rattle.bitset.proofs.Promises.{promises}
 use Rattle.planning.specs.Table.{Table, Step}
 use Rattle.planning.specs.Variable.{factVar}
@@ -32,18 +31,50 @@ set-kept s f e t = rw (← e, t, and-off (has (s .clears) f))
 pub clear-dropped : {r q : Bool} (s : Step) (f : ℕ) → r ≡ has (s .sets) f → r ≡ false → q ≡ has (s .clears) f → q ≡ drops s f
 clear-dropped s f e t h = rw (h, ← e, t, and-on (has (s .clears) f))
 
--- one word has at most 64 members
-pub one-most : {fs : List ℕ} (l : List ℕ) → length l ≡ 1 → members l ≡ fs → length fs ≤ 64
-one-most l one e = omega (arith, promises .at-most l, ap length e)
+-- Member i of a set, by halves: at most i members lie below lo, and more below hi --------------------------------------------------
+pub record Between (l : List ℕ) (i lo hi : ℕ) : Type 0 where
+  pub low : length (membersBelow l lo) ≤ i
+  pub high : i < length (membersBelow l hi)
+  pub order : lo < hi
+  pub most : hi ≤ 64
 
--- member i of a set, out of the list of its members
-pub listed-at : {fs o o′ : List ℕ} {r : ℕ} (l : List ℕ) (i : ℕ) → length l ≡ 1 → length o ≡ 64 → members l ≡ fs → i < length fs → Listed (membersBelow l 64) o o′ r
-    → (getD o′ i 0 ≡ getD fs i 0) × (getD o′ i 0 < 64)
-listed-at {fs} {o} {o′} {r} l i one n e h k =
-    let q : membersBelow l 64 ≡ fs = ap (λ (m : ℕ). membersBelow l (64 * m)) (sym one) ∙ e in
-    let c : r ≡ length fs = k .count ∙ rw (q, n) (omega (arith, one-most l one e)) in
-    let g : getD o′ i 0 ≡ getD fs i 0 = rw (k .text, q, c, take-all (length fs) fs (omega arith)) (List·getD-append fs (drop (length fs) o) 0 i h) in
-    (g, omega (arith, g, one, rising-range 0 (64 * length l) fs (rw e at (promises .rising l)) (getD fs i 0) (in-getD i fs 0 h) .1))
+-- one word has all its members below 64
+pub one-word : {fs : List ℕ} (l : List ℕ) → length l ≡ 1 → members l ≡ fs → membersBelow l 64 ≡ fs
+one-word l one e = ap (λ (m : ℕ). membersBelow l (64 * m)) (sym one) ∙ e
+
+pub between-all : {fs : List ℕ} (l : List ℕ) {i : ℕ} → length l ≡ 1 → members l ≡ fs → i < length fs → Between l i 0 64
+between-all l one e h = record { low = omega arith; high = omega (arith, ap length (one-word l one e)); order = omega arith; most = omega arith }
+
+module _ {l : List ℕ} {i lo hi : ℕ} (u : Between l i lo hi) where
+  pub middle-up : {m k : ℕ} → lo + 1 < hi → m ≡ (lo + hi) / 2 → k ≡ length (membersBelow l m) → k ≤ i → Between l i m hi
+  middle-up h e q g = record { low = omega (arith, q); high = u .high; order = omega (arith, e); most = u .most }
+
+  pub middle-down : {m k : ℕ} → lo + 1 < hi → m ≡ (lo + hi) / 2 → k ≡ length (membersBelow l m) → i < k → Between l i lo m
+  middle-down h e q g = record { low = u .low; high = omega (arith, q); order = omega (arith, e); most = omega (arith, u .most, e) }
+
+  -- no number lies between
+  pub only-one : {fs : List ℕ} → hi ≤ lo + 1 → membersBelow l 64 ≡ fs → (lo ≡ getD fs i 0) × (lo < 64)
+  only-one {fs} h e = (go (contains l lo) refl, omega (arith, u .order, u .most))
+    where
+      before : List ℕ
+      before = membersBelow l lo
+
+      at-hi : membersBelow l hi ≡ before ++ consIf (contains l lo) lo []
+      at-hi = let z : hi ≡ lo + 1 = omega (arith, u .order) in rw z (filter-split (contains l) lo 1)
+
+      all : fs ≡ before ++ filter (contains l) (from lo (64 - lo))
+      all = let z : lo + (64 - lo) ≡ 64 = omega (arith, u .order, u .most) in sym e ∙ ap (membersBelow l) (sym z) ∙ filter-split (contains l) lo (64 - lo)
+
+      rest : from lo (64 - lo) ≡ lo ∷ from (suc lo) (63 - lo)
+      rest = let z : 64 - lo ≡ suc (63 - lo) = omega (arith, u .order, u .most) in ap (from lo) z
+
+      go : (b : Bool) → contains l lo ≡ b → lo ≡ getD fs i 0
+      go false n =
+          absurd (omega (arith, u .low, u .high, ap length at-hi, ap (λ (t : Bool). length (before ++ consIf t lo [])) n, ap length (append-nil before)))
+      go true y =
+          let long : i ≡ length before = omega (arith, u .low, u .high, ap length at-hi, ap (λ (t : Bool). length (before ++ consIf t lo [])) y, length-append before (lo ∷ [])) in
+          let here : filter (contains l) (from lo (64 - lo)) ≡ lo ∷ filter (contains l) (from (suc lo) (63 - lo)) = ap (filter (contains l)) rest ∙ rw y in
+          sym (rw (all, here, long) (getD-append-seam before lo (filter (contains l) (from (suc lo) (63 - lo))) 0))
 
 -- Variables ----------------------------------------------------------------------------------------------------------------------
 module _ {T : Table} {ix : List ℕ} (i : Indexed T ix) where

@@ -33,9 +33,18 @@ fn effect_fact(ws: &[u64], s: usize, y: usize, i: usize) -> usize
     ensures { λ r. ⌜ (r ≡ getD (effectFacts (tableIn (now (ws .entry))) s y) i 0) × (r < 64) ⌝ }
 {
     let facts = shape::effects(ws, s, y);
-    let mut all: [usize; 64] = [0; 64];
-    bitset::list(&facts, 64, &mut all);
-    all[i]
+    // At most i members lie below lo, and more below hi.
+    let mut lo: usize = 0;
+    let mut hi: usize = 64;
+    while lo + 1 < hi {
+        let m = (lo + hi) / 2;
+        if bitset::rank(&facts, m) <= i {
+            lo = m;
+        } else {
+            hi = m;
+        }
+    }
+    lo
 }
 
 // Step x of slot n, then its effect: needed before, set after, or cleared after.

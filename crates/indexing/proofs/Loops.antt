@@ -13,7 +13,7 @@ use Rattle.lists.specs.Written.{Wrote}
 use Rattle.lists.proofs.Every.{concatMap-append}
 use Rattle.lists.proofs.Number.{length-from}
 use Rattle.lists.proofs.Order.{le-or-lt}
-use Rattle.lists.proofs.Place.{from-add, filter-append}
+use Rattle.lists.proofs.Place.{filter-split}
 use Rattle.lists.proofs.Written.{wrote-none, wrote-append, wrote-same, wrote-length}
 use Rattle.bitset.specs.Set.{contains}
 use Rattle.planning.specs.Table.{Table, jobOf}
@@ -83,20 +83,15 @@ pub record Picked (p : ℕ → Bool) (k : ℕ) (o₀ : List ℕ) (s : ℕ) (o : 
 pub picked-none : (p : ℕ → Bool) (k : ℕ) (o : List ℕ) (s : ℕ) → s + length (filter p (upTo k)) ≤ length o → Picked p k o s o s 0
 picked-none p k o s h = record { at = omega arith; room = h; same = refl; text = wrote-none o s }
 
-picked-next : (p : ℕ → Bool) (m n : ℕ) → filter p (upTo (m + n)) ≡ filter p (upTo m) ++ filter p (from m n)
-picked-next p m n =
-    let z : 0 + m ≡ m = omega arith in
-    ap (filter p) (from-add 0 m n) ∙ filter-append p (upTo m) (from (0 + m) n) ∙ ap (λ (j : ℕ). filter p (upTo m) ++ filter p (from j n)) z
-
 module _ {p : ℕ → Bool} {k : ℕ} {o₀ o : List ℕ} {s a m : ℕ} (u : Picked p k o₀ s o a m) {b : Bool} (e : b ≡ p m) (h : m < k) where
   pub picked-room : a + length (consIf b m []) ≤ length o
   picked-room =
       let q : m + 1 + (k - (m + 1)) ≡ k = omega arith in
       let l : length (filter p (upTo k)) ≡ length (filter p (upTo m)) + length (consIf b m []) + length (filter p (from (m + 1) (k - (m + 1)))) =
       ap (λ (i : ℕ). length (filter p (upTo i))) (sym q)
-      ∙ ap length (picked-next p (m + 1) (k - (m + 1))) ∙ length-append (filter p (upTo (m + 1))) (filter p (from (m + 1) (k - (m + 1))))
+      ∙ ap length (filter-split p (m + 1) (k - (m + 1))) ∙ length-append (filter p (upTo (m + 1))) (filter p (from (m + 1) (k - (m + 1))))
       ∙ ap (λ (i : ℕ). i + length (filter p (from (m + 1) (k - (m + 1))))) (
-      ap length (picked-next p m 1) ∙ length-append (filter p (upTo m)) (consIf (p m) m [])
+      ap length (filter-split p m 1) ∙ length-append (filter p (upTo m)) (consIf (p m) m [])
       ∙ ap (λ (t : Bool). length (filter p (upTo m)) + length (consIf t m [])) (sym e)
       ) in
       omega (arith, u .room, u .same, u .text .end, l)
@@ -106,7 +101,7 @@ module _ {p : ℕ → Bool} {k : ℕ} {o₀ o : List ℕ} {s a m : ℕ} (u : Pic
     at = omega arith;
     room = u .room;
     same = wrote-length w picked-room ∙ u .same;
-    text = wrote-same (ap (λ (t : Bool). filter p (upTo m) ++ consIf t m []) e ∙ sym (picked-next p m 1)) (wrote-append (omega (arith, u .room)) (u .text) w);
+    text = wrote-same (ap (λ (t : Bool). filter p (upTo m) ++ consIf t m []) e ∙ sym (filter-split p m 1)) (wrote-append (omega (arith, u .room)) (u .text) w);
   }
 
 pub picked-all : {p : ℕ → Bool} {k : ℕ} {o₀ o : List ℕ} {s a m : ℕ} → Picked p k o₀ s o a m → k ≤ m → Wrote o₀ s (filter p (upTo k)) o a
@@ -126,7 +121,7 @@ module _ {p : ℕ → Bool} {k : ℕ} {o₀ o : List ℕ} {s a m e : ℕ} (u : P
   pub picked-full : e ≤ a → Wrote o₀ s (filter p (upTo k)) o a
   picked-full h =
       let z : m + (k - m) ≡ k = omega (arith, u .at) in
-      let all : filter p (upTo k) ≡ filter p (upTo m) ++ filter p (from m (k - m)) = ap (λ (i : ℕ). filter p (upTo i)) (sym z) ∙ picked-next p m (k - m) in
+      let all : filter p (upTo k) ≡ filter p (upTo m) ++ filter p (from m (k - m)) = ap (λ (i : ℕ). filter p (upTo i)) (sym z) ∙ filter-split p m (k - m) in
       let none : filter p (from m (k - m)) ≡ [] =
       length-none _ (omega (arith, q, u .text .end, ap length all, length-append (filter p (upTo m)) (filter p (from m (k - m))))) in
       wrote-same (sym (all ∙ ap (λ (l : List ℕ). filter p (upTo m) ++ l) none ∙ append-nil (filter p (upTo m)))) (u .text)

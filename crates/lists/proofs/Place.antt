@@ -83,13 +83,18 @@ filter-none : (p : ℕ → Bool) (k n : ℕ) → ((i : ℕ) → k ≤ i → p i 
 filter-none p k zero h = refl
 filter-none p k (suc n) h = rw (h k (omega arith)) (filter-none p (suc k) n (λ i l. h i (omega arith)))
 
+-- the numbers below m, and the n behind them
+pub filter-split : (p : ℕ → Bool) (m n : ℕ) → filter p (upTo (m + n)) ≡ filter p (upTo m) ++ filter p (from m n)
+filter-split p m n =
+    let z : 0 + m ≡ m = omega arith in
+    ap (filter p) (from-add 0 m n) ∙ filter-append p (upTo m) (from (0 + m) n) ∙ ap (λ (j : ℕ). filter p (upTo m) ++ filter p (from j n)) z
+
 -- numbers that do not pass add nothing
 pub filter-enough : (p : ℕ → Bool) (m n : ℕ) → n ≤ m → ((i : ℕ) → n ≤ i → p i ≡ false) → filter p (upTo m) ≡ filter p (upTo n)
 filter-enough p m n h f =
     let e : m ≡ n + (m - n) = omega arith in
-    let z : 0 + n ≡ n = omega arith in
-    ap (λ (k : ℕ). filter p (upTo k)) e ∙ ap (filter p) (from-add 0 n (m - n)) ∙ filter-append p (upTo n) (from (0 + n) (m - n))
-    ∙ ap (λ (l : List ℕ). filter p (upTo n) ++ l) (ap (λ (k : ℕ). filter p (from k (m - n))) z ∙ filter-none p n (m - n) f) ∙ append-nil (filter p (upTo n))
+    ap (λ (k : ℕ). filter p (upTo k)) e ∙ filter-split p n (m - n)
+    ∙ ap (λ (l : List ℕ). filter p (upTo n) ++ l) (filter-none p n (m - n) f) ∙ append-nil (filter p (upTo n))
 
 -- a list of one member
 pub one-word : (l : List ℕ) → length l ≡ 1 → getD l 0 0 ∷ [] ≡ l
