@@ -5,13 +5,12 @@ use mathlib.Core.List.{List, [], _∷_}
 use Prim.Native.Nat.{ℕ}
 use native.Mathlib.Omega.{arith}
 use Rattle.planning.specs.Table.{Table}
-use Rattle.places.specs.Nest.{Pos, left}
+use Rattle.places.specs.Nest.{Pos}
 use Rattle.places.specs.ClausePlace.{shape}
 use Rattle.places.specs.Cursor.{after}
 use Rattle.places.proofs.Cursor.{left-behind}
-use Rattle.places.proofs.Walk.{left-clause}
 use Rattle.index.specs.Index.{source}
-use Rattle.cursor.specs.Cursor.{posOf, ofPos, leftIn, answerOf, nextOf, Holds}
+use Rattle.cursor.specs.Cursor.{posOf, ofPos, leftIn, answerOf, nextOf}
 use Rattle.cursor.specs.declared.Cursor.{Cursor}
 use Rattle.cursor.specs.declared.Next.{Next}
 use Rattle.cursor.specs.declared.Next.the-variants.{Clause, End}
@@ -27,18 +26,6 @@ module _ (T : Table) (c : Cursor) where
           let b : d ≡ ofPos T (after x) = cc in
           let r : leftIn T d ≡ xs = ap (leftIn T) b ∙ left-behind (shape (source T)) (posOf c) x xs q in
           q ∙ ap₂ (λ (m : Cursor) (l : List Pos). posOf m ∷ l) (sym a) (sym r)
-
-  -- from the clause handed out on, the same places are left
-  pub handed-place : (p d : Cursor) → Clause p d ≡ nextOf T c → Holds T p → leftIn T c ≡ leftIn T p
-  unfolding shape
-  handed-place p d e h = go (leftIn T c) refl e
-    where
-      go : (l : List Pos) → leftIn T c ≡ l → Clause p d ≡ answerOf T l → leftIn T c ≡ leftIn T p
-      go [] q f = let z : _≡_ {A = ℕ} 0 1 = cc in absurd (omega arith)
-      go (x ∷ xs) q f =
-          let a : p ≡ ofPos T x = cc in
-          q ∙ sym (left-clause (shape (source T)) (p .rule) (p .node) (p .group) (p .x) (p .y) (p .i) (h .clause)
-          ∙ ap (λ (m : Cursor). posOf m ∷ left (shape (source T)) (after (posOf m))) a ∙ ap (λ (l : List Pos). x ∷ l) (left-behind (shape (source T)) (posOf c) x xs q))
 
   pub handed-end : End ≡ nextOf T c → leftIn T c ≡ []
   handed-end e = go (leftIn T c) refl e

@@ -199,14 +199,15 @@ pub record Upto (T : Table) (c₀ c : Cursor) : Type 0 where
   pub same : leftIn T c₀ ≡ leftIn T c
   pub inside : In T c
 
-pub upto-move : {T : Table} {c₀ c d : Cursor} → Upto T c₀ c → c .rule < 4 → c .len ≤ c .i → Moved T c d → Upto T c₀ d
+-- nothing of the row is left
+pub row-used : {T : Table} {c : Cursor} → Stands T c → c .len ≤ c .i → leftIn T c ≡ left (shape (source T)) (rowEnd T c)
 unfolding shape
-upto-move {T} {c₀} {c} {d} u r h m = record { same = u .same ∙ past ∙ m .same; inside = m .inside }
-  where
-    past : leftIn T c ≡ left (shape (source T)) (rowEnd T c)
-    past =
-        left-row (shape (source T)) (good (source T)) (c .rule) (c .node) (c .group) (c .x) (c .y) (c .i) (omega (arith, stands-of (u .inside) r .len))
-        ∙ sym (left-row (shape (source T)) (good (source T)) (c .rule) (c .node) (c .group) (c .x) (c .y) (rowLen (source T) (c .rule) (c .node) (c .group) (c .x) (c .y)) (omega arith))
+row-used {T} {c} s h =
+    left-row (shape (source T)) (good (source T)) (c .rule) (c .node) (c .group) (c .x) (c .y) (c .i) (omega (arith, s .len))
+    ∙ sym (left-row (shape (source T)) (good (source T)) (c .rule) (c .node) (c .group) (c .x) (c .y) (rowLen (source T) (c .rule) (c .node) (c .group) (c .x) (c .y)) (omega arith))
+
+pub upto-move : {T : Table} {c₀ c d : Cursor} → Upto T c₀ c → c .rule < 4 → c .len ≤ c .i → Moved T c d → Upto T c₀ d
+upto-move u r h m = record { same = u .same ∙ row-used (stands-of (u .inside) r) h ∙ m .same; inside = m .inside }
 
 module _ {T : Table} {c₀ c : Cursor} (u : Upto T c₀ c) where
   -- the place behind c's, in its row

@@ -1,9 +1,10 @@
--- The clauses that the cursor hands out, under values.
--- By what the cursor's method hands back.
-use mathlib.Core.Path.{_≡_, sym, ap, _∙_}
-use mathlib.Core.Bool.{true, false}
+-- The clauses of the formula under values, row by row.
+-- By what is left from a place on.
+use mathlib.Core.Path.{_≡_, refl, sym, ap, _∙_}
+use mathlib.Core.Bool.{Bool, true, false}
 use mathlib.Core.List.{List, [], _∷_, map, map-map}
-use Prim.Native.Nat.{ℕ, zero, suc, _+_, _-_, _<_}
+use mathlib.Core.Logic.{_⊎_, inl, inr}
+use Prim.Native.Nat.{ℕ, zero, suc, _+_, _-_, _≤_, _<_}
 use native.Mathlib.Omega.{arith}
 use lib.ListN.{length, take}
 use Rattle.lists.specs.Written.{Wrote}
@@ -18,95 +19,95 @@ use Rattle.places.specs.ClausePlace.{literals, placeAt, rowLen, shape}
 use Rattle.places.proofs.Formula.{formula-places}
 use Rattle.places.proofs.Walk.{left-clause}
 use Rattle.index.specs.Index.{source}
-use Rattle.cursor.specs.Cursor.{nextOf, In, Holds, rowEnd, Moved, Found}
-use Rattle.cursor.proofs.Handing.{handed-clause, handed-place, handed-end}
+use Rattle.cursor.specs.Cursor.{Stands, In, Holds, Moved, Found}
+use Rattle.cursor.proofs.Moves.{left-at-end, row-used}
 use Rattle.cursor.specs.declared.Cursor.{Cursor}
-use Rattle.cursor.specs.declared.Next.the-variants.{Clause as NextClause, End}
-use Rattle.model.specs.Clauses.{clauseAt, clausesFrom, RowTrue}
+use Rattle.model.specs.Clauses.{clausesAt, clausesFrom, clausesBehind, RowTrue, RowTold}
 
 -- a clause from the codes of its literals
 pub codes-true : (v : Valuation) (C : Clause) {o o′ : List ℕ} {k : ℕ} → Wrote o 0 (map codeOf C) o′ k → clauseTrue v (clauseIn (take k o′)) ≡ clauseTrue v C
 codes-true v C w = ap (λ (l : List ℕ). clauseTrue v (clauseIn l)) (wrote-front w) ∙ ap (clauseTrue v) (clause-code C)
 
--- What the cursor hands out --------------------------------------------------------------------------------------------------------
-abbrev clausesAt : Table → List Pos → List Clause
-clausesAt T l = map (literals (source T)) (map (placeAt (source T)) l)
-
+-- A row ----------------------------------------------------------------------------------------------------------------------------
 module _ (T : Table) (c : Cursor) where
-  next-clause : (p d : Cursor) → NextClause p d ≡ nextOf T c → clausesFrom T c ≡ clauseAt T p ∷ clausesFrom T d
-  next-clause p d e = ap (clausesAt T) (handed-clause T c p d e)
+  -- place i of the row of c, its clause, and the clauses from it on
+  abbrev placeIn : ℕ → Pos
+  placeIn i = at (c .rule) (c .node) (c .group) (c .x) (c .y) i
 
-  next-none : End ≡ nextOf T c → clausesFrom T c ≡ []
-  next-none e = ap (clausesAt T) (handed-end T c e)
+  abbrev pub rowClause : ℕ → Clause
+  rowClause i = literals (source T) (placeAt (source T) (placeIn i))
 
-  -- from the first place on: the formula
-  clauses-found : Found T 0 c → clausesFrom T c ≡ formula T
-  clauses-found f =
-      ap (clausesAt T) (f .same)
-      ∙ (map-map (literals (source T)) (placeAt (source T)) (positions (shape (source T))) ∙ formula-places T)
+  abbrev pub alongRow : ℕ → List Clause
+  alongRow i = clausesAt T (left (shape (source T)) (placeIn i))
 
--- A row passed over ------------------------------------------------------------------------------------------------------------------
-module _ (T : Table) (c : Cursor) where
-  -- the clauses from place i of the row of c on, and those behind the row
-  abbrev alongRow : ℕ → List Clause
-  alongRow i = clausesAt T (left (shape (source T)) (at (c .rule) (c .node) (c .group) (c .x) (c .y) i))
+  abbrev pub rowSize : ℕ
+  rowSize = rowLen (source T) (c .rule) (c .node) (c .group) (c .x) (c .y)
 
-  abbrev behindRow : List Clause
-  behindRow = clausesAt T (left (shape (source T)) (rowEnd T c))
-
-  -- k clauses of the row, the first at place i
-  one-passed : (i k : ℕ) → i + suc k ≡ rowLen (source T) (c .rule) (c .node) (c .group) (c .x) (c .y)
-      → alongRow i ≡ literals (source T) (placeAt (source T) (at (c .rule) (c .node) (c .group) (c .x) (c .y) i)) ∷ alongRow (i + 1)
+  one-passed : (i : ℕ) → i < rowSize → alongRow i ≡ rowClause i ∷ alongRow (i + 1)
   unfolding shape
-  one-passed i k e = ap (clausesAt T) (left-clause (shape (source T)) (c .rule) (c .node) (c .group) (c .x) (c .y) i (omega arith))
+  one-passed i h = ap (clausesAt T) (left-clause (shape (source T)) (c .rule) (c .node) (c .group) (c .x) (c .y) i h)
 
-  row-satisfied : {v : Valuation} → RowTrue T v c → (k i : ℕ) → i + k ≡ rowLen (source T) (c .rule) (c .node) (c .group) (c .x) (c .y) → satisfies v (alongRow i) ≡ satisfies v behindRow
-  row-satisfied {v} t zero i e = let z : i ≡ rowLen (source T) (c .rule) (c .node) (c .group) (c .x) (c .y) = omega arith in ap (λ (j : ℕ). satisfies v (alongRow j)) z
-  row-satisfied {v} t (suc k) i e = ap (satisfies v) (one-passed i k e) ∙ rw (t .satisfied i (omega arith)) (row-satisfied t k (i + 1) (omega arith))
+  row-satisfied : {v : Valuation} → RowTrue T v c → (k i : ℕ) → i + k ≡ rowSize → satisfies v (alongRow i) ≡ satisfies v (clausesBehind T c)
+  row-satisfied {v} t zero i e = let z : i ≡ rowSize = omega arith in ap (λ (j : ℕ). satisfies v (alongRow j)) z
+  row-satisfied {v} t (suc k) i e = ap (satisfies v) (one-passed i (omega arith)) ∙ rw (t .satisfied i (omega arith)) (row-satisfied t k (i + 1) (omega arith))
 
-  row-length : (k i : ℕ) → i + k ≡ rowLen (source T) (c .rule) (c .node) (c .group) (c .x) (c .y) → length (alongRow i) ≡ k + length behindRow
-  row-length zero i e = let z : i ≡ rowLen (source T) (c .rule) (c .node) (c .group) (c .x) (c .y) = omega arith in omega (arith, ap (λ (j : ℕ). length (alongRow j)) z)
-  row-length (suc k) i e = ap length (one-passed i k e) ∙ omega (arith, row-length k (i + 1) (omega arith))
+not-both : true ≡ false → ⊥
+not-both e = let z : _≡_ {A = ℕ} 0 1 = cc in omega arith
 
--- The loop -------------------------------------------------------------------------------------------------------------------------
--- all clauses handed out so far are satisfied
+-- `is_row_satisfied`: the clauses of the row before place i are satisfied
+pub record Along (T : Table) (v : Valuation) (c : Cursor) (i : ℕ) : Type 0 where
+  pub at : i ≤ c .len
+  pub same : satisfies v (clausesFrom T c) ≡ satisfies v (alongRow T c i)
+
+-- a clause stands at c, and at place i of its row
+pub here : {T : Table} {c : Cursor} → Stands T c → c .i < c .len → Holds T c
+here s h = record { stands = s; clause = omega (arith, s .len) }
+
+pub further : {T : Table} {c : Cursor} {i : ℕ} → Stands T c → i < c .len → Holds T (record { rule = c .rule; node = c .node; group = c .group; x = c .x; y = c .y; i = i; len = c .len })
+further s h = record { stands = record { rule = s .rule; node = s .node; group = s .group; x = s .x; y = s .y; len = s .len }; clause = omega (arith, s .len) }
+
+module _ {T : Table} {v : Valuation} {c : Cursor} (s : Stands T c) where
+  -- nothing of the row is left
+  pub row-over : c .len ≤ c .i → RowTold T v c true
+  row-over h = record { yes = λ e. ap (λ (l : List Pos). satisfies v (clausesAt T l)) (row-used s h); no = λ e. absurd (not-both e) }
+
+  pub row-told : c .i < c .len → RowTrue T v c → RowTold T v c true
+  row-told h t = record { yes = λ e. row-satisfied T c t (rowSize T c - c .i) (c .i) (omega (arith, s .len)); no = λ e. absurd (not-both e) }
+
+  pub along-first : c .i < c .len → Along T v c (c .i)
+  along-first h = record { at = omega arith; same = refl }
+
+  module _ {i : ℕ} (u : Along T v c i) where
+    pub along-off : i < c .len → clauseTrue v (rowClause T c i) ≡ false → RowTold T v c false
+    along-off h n = record { yes = λ e. absurd (not-both (sym e)); no = λ e. u .same ∙ ap (satisfies v) (one-passed T c i (omega (arith, s .len))) ∙ rw n }
+
+    pub along-more : i < c .len → clauseTrue v (rowClause T c i) ≡ true → Along T v c (i + 1)
+    along-more h y = record { at = omega arith; same = u .same ∙ ap (satisfies v) (one-passed T c i (omega (arith, s .len))) ∙ rw y }
+
+    pub along-end : c .len ≤ i → RowTold T v c true
+    along-end h = let z : i ≡ rowSize T c = omega (arith, u .at, s .len) in record { yes = λ e. u .same ∙ ap (λ (j : ℕ). satisfies v (alongRow T c j)) z; no = λ e. absurd (not-both e) }
+
+-- `is_model`: all clauses before c are satisfied ---------------------------------------------------------------------------------------
 pub record Checking (T : Table) (v : Valuation) (c : Cursor) : Type 0 where
   pub left : satisfies v (formula T) ≡ satisfies v (clausesFrom T c)
   pub inside : In T c
 
 pub checking-none : {T : Table} {v : Valuation} {c : Cursor} → Found T 0 c → Checking T v c
-checking-none {T} {v} {c} f = record { left = ap (satisfies v) (sym (clauses-found T c f)); inside = f .inside }
+checking-none {T} {v} {c} f = record {
+  left = ap (satisfies v) (sym (ap (clausesAt T) (f .same) ∙ (map-map (literals (source T)) (placeAt (source T)) (positions (shape (source T))) ∙ formula-places T)));
+  inside = f .inside;
+}
 
-module _ {T : Table} {v : Valuation} {c : Cursor} (k : Checking T v c) where
-  module _ {p d : Cursor} (e : NextClause p d ≡ nextOf T c) where
-    pub checking-off : clauseTrue v (clauseAt T p) ≡ false → false ≡ satisfies v (formula T)
-    checking-off n = sym (k .left ∙ ap (satisfies v) (next-clause T c p d e) ∙ rw n)
+module _ {T : Table} {v : Valuation} {c : Cursor} (k : Checking T v c) {r : Bool} (t : RowTold T v c r) where
+  pub checking-off : r ≡ false → false ≡ satisfies v (formula T)
+  checking-off n = sym (k .left ∙ t .no n)
 
-    pub checking-more : clauseTrue v (clauseAt T p) ≡ true → In T d → Checking T v d
-    checking-more y i = record { left = k .left ∙ ap (satisfies v) (next-clause T c p d e) ∙ rw y; inside = i }
+  pub checking-row : {d : Cursor} → r ≡ true → Moved T c d → Checking T v d
+  checking-row y m = record { left = k .left ∙ t .yes y ∙ ap (λ (l : List Pos). satisfies v (clausesAt T l)) (m .same); inside = m .inside }
 
-    pub fewer : length (clausesFrom T d) < length (clausesFrom T c)
-    fewer = omega (arith, ap length (next-clause T c p d e))
-
-    -- the row of p is passed over
-    module _ {m : Cursor} (h : Holds T p) (q : Moved T p m) where
-      pub checking-row : RowTrue T v p → Checking T v m
-      checking-row t = record {
-        left = k .left
-            ∙ (ap (λ (l : List Pos). satisfies v (clausesAt T l)) (handed-place T c p d e h)
-            ∙ (row-satisfied T p t (rowLen (source T) (p .rule) (p .node) (p .group) (p .x) (p .y) - p .i) (p .i) (omega (arith, h .clause))
-            ∙ ap (λ (l : List Pos). satisfies v (clausesAt T l)) (q .same)));
-        inside = q .inside;
-      }
-
-      pub fewer-rows : length (clausesFrom T m) < length (clausesFrom T c)
-      fewer-rows = omega (
-        arith,
-        ap (λ (l : List Pos). length (clausesAt T l)) (handed-place T c p d e h),
-        row-length T p (rowLen (source T) (p .rule) (p .node) (p .group) (p .x) (p .y) - p .i) (p .i) (omega (arith, h .clause)),
-        ap (λ (l : List Pos). length (clausesAt T l)) (q .same),
-        h .clause,
-      )
-
-  pub checking-end : End ≡ nextOf T c → true ≡ satisfies v (formula T)
-  checking-end e = sym (k .left ∙ ap (satisfies v) (next-none T c e))
+pub checking-end : {T : Table} {v : Valuation} {c : Cursor} → Checking T v c → 4 ≤ c .rule → true ≡ satisfies v (formula T)
+checking-end {T} {v} {c} k h = sym (k .left ∙ go (k .inside))
+  where
+    go : In T c → satisfies v (clausesFrom T c) ≡ true
+    go (inl s) = absurd (omega (arith, s .rule))
+    go (inr e) = ap (λ (d : Cursor). satisfies v (clausesFrom T d)) e ∙ ap (λ (l : List Pos). satisfies v (clausesAt T l)) (left-at-end T)
