@@ -3,21 +3,40 @@
 use std::time::{Duration, Instant};
 
 /// Rounds of turns, and how long a contender's turn is at least.
-const ROUNDS: usize = 15;
+const ROUNDS: usize = 25;
 const TURN: Duration = Duration::from_millis(20);
 
 /// A contender: its work, done once a call.
 pub type Work<'a> = Box<dyn FnMut() + 'a>;
 
-/// The median time of each contender's work, in seconds, with the least and the greatest.
-#[derive(Clone, Copy)]
-pub struct Time {
-    pub median: f64,
-    pub least: f64,
-    pub greatest: f64,
+/// The times of a contender's work, in seconds, round by round.
+pub struct Times(Vec<f64>);
+
+impl Times {
+    pub fn median(&self) -> f64 {
+        median(self.0.clone())
+    }
+
+    pub fn least(&self) -> f64 {
+        self.0.iter().copied().fold(f64::INFINITY, f64::min)
+    }
+
+    pub fn greatest(&self) -> f64 {
+        self.0.iter().copied().fold(0.0, f64::max)
+    }
+
+    /// The median over the rounds of how many times as long as the other it took.
+    pub fn ratio(&self, other: &Times) -> f64 {
+        median(self.0.iter().zip(&other.0).map(|(own, other)| own / other).collect())
+    }
 }
 
-pub fn in_turns(contenders: &mut [Work]) -> Vec<Time> {
+fn median(mut values: Vec<f64>) -> f64 {
+    values.sort_by(f64::total_cmp);
+    values[values.len() / 2]
+}
+
+pub fn in_turns(contenders: &mut [Work]) -> Vec<Times> {
     let repeats: Vec<u32> = contenders.iter_mut().map(repeats_in_a_turn).collect();
     let mut times: Vec<Vec<f64>> = vec![Vec::new(); contenders.len()];
     for _ in 0..ROUNDS {
@@ -25,7 +44,7 @@ pub fn in_turns(contenders: &mut [Work]) -> Vec<Time> {
             times[place].push(turn(work, repeats[place]));
         }
     }
-    times.into_iter().map(summary).collect()
+    times.into_iter().map(Times).collect()
 }
 
 /// One turn's time for the work done once.
@@ -48,11 +67,6 @@ fn repeats_in_a_turn(work: &mut Work) -> u32 {
         }
         repeats *= 2;
     }
-}
-
-fn summary(mut times: Vec<f64>) -> Time {
-    times.sort_by(f64::total_cmp);
-    Time { median: times[times.len() / 2], least: times[0], greatest: times[times.len() - 1] }
 }
 
 /// A time with three digits, in the unit that suits it.

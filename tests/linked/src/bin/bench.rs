@@ -1,7 +1,7 @@
 //! Measures the linked calls beside Rust: `bench CRATES`, with the folder of the crates, whose stored tables and answers are the inputs. Writes
 //! tables for docs/BENCHMARKS.md. Every contender's result is compared before anything is measured.
 
-use linked::clock::{in_turns, shown, Time, Work};
+use linked::clock::{in_turns, shown, Times, Work};
 use linked::{direct, library};
 use planner::calls::{self as second, TEXT_BYTES, TREE_WORDS, VALUES};
 use planner::dimacs::answer;
@@ -85,12 +85,12 @@ fn row(cells: &[String]) {
     println!("| {} |", cells.join(" | "));
 }
 
-fn spread(time: Time) -> String {
-    format!("{} ({} to {})", shown(time.median), shown(time.least), shown(time.greatest))
+fn spread(times: &Times) -> String {
+    format!("{} ({} to {})", shown(times.median()), shown(times.least()), shown(times.greatest()))
 }
 
-fn ratio(ours: Time, theirs: Time) -> String {
-    format!("{:.2}", ours.median / theirs.median)
+fn ratio(ours: &Times, theirs: &Times) -> String {
+    format!("{:.2}", ours.ratio(theirs))
 }
 
 fn grouped(number: usize) -> String {
@@ -120,7 +120,7 @@ fn whole_formulas(inputs: &[Input]) {
             Box::new(|| _ = black_box(whole(&formula(black_box(&input.file)).expect("accepted")))),
             Box::new(|| black_box(&mut copy)[..expected.len()].copy_from_slice(black_box(&expected))),
         ];
-        let [ours, rust, planner, copied] = in_turns(&mut contenders)[..] else { unreachable!() };
+        let [ours, rust, planner, copied] = &in_turns(&mut contenders)[..] else { unreachable!() };
         let [_, variables, clauses] = input.counts();
         row(&[
             input.name.clone(),
@@ -128,11 +128,11 @@ fn whole_formulas(inputs: &[Input]) {
             grouped(clauses),
             grouped(expected.len()),
             spread(ours),
-            shown(rust.median),
+            shown(rust.median()),
             ratio(ours, rust),
-            shown(planner.median),
+            shown(planner.median()),
             ratio(ours, planner),
-            shown(copied.median),
+            shown(copied.median()),
             ratio(ours, copied),
         ]);
     }
@@ -154,8 +154,8 @@ fn text_calls(input: &Input) {
                 Box::new(|| _ = black_box(library::write_text(black_box(&input.file), &tree, line, &mut text))),
                 Box::new(|| _ = black_box(direct::write_text(black_box(&input.file), line, room, &mut own))),
             ];
-            let [ours, rust] = in_turns(&mut contenders)[..] else { unreachable!() };
-            row(&[grouped(room), grouped(line), grouped(used), spread(ours), shown(rust.median), ratio(ours, rust)]);
+            let [ours, rust] = &in_turns(&mut contenders)[..] else { unreachable!() };
+            row(&[grouped(room), grouped(line), grouped(used), spread(ours), shown(rust.median()), ratio(ours, rust)]);
         }
     }
 }
@@ -175,16 +175,16 @@ fn answers(inputs: &[Input]) {
             Box::new(|| _ = black_box(direct::take_answer(black_box(&input.file), &input.answer, &mut own))),
             Box::new(|| _ = black_box(second::take_answer(black_box(&input.file), &tree, &input.answer, &mut wanted))),
         ];
-        let [ours, rust, planner] = in_turns(&mut contenders)[..] else { unreachable!() };
+        let [ours, rust, planner] = &in_turns(&mut contenders)[..] else { unreachable!() };
         row(&[
             input.name.clone(),
             grouped(variables),
             grouped(clauses),
             grouped(input.answer.len()),
             spread(ours),
-            shown(rust.median),
+            shown(rust.median()),
             ratio(ours, rust),
-            shown(planner.median),
+            shown(planner.median()),
             ratio(ours, planner),
         ]);
     }
@@ -201,16 +201,16 @@ fn readings(inputs: &[Input]) {
             Box::new(|| _ = black_box(direct::check(black_box(&input.file)))),
             Box::new(|| _ = black_box(second::check(black_box(&input.file)))),
         ];
-        let [ours, rust, planner] = in_turns(&mut contenders)[..] else { unreachable!() };
+        let [ours, rust, planner] = &in_turns(&mut contenders)[..] else { unreachable!() };
         let told = outcome.map_or_else(|refused| format!("refused {}", refused.0), |[_, _, clauses]| format!("{} clauses", grouped(clauses)));
         row(&[
             input.name.clone(),
             grouped(input.file.len()),
             told,
             spread(ours),
-            shown(rust.median),
+            shown(rust.median()),
             ratio(ours, rust),
-            shown(planner.median),
+            shown(planner.median()),
             ratio(ours, planner),
         ]);
     }
@@ -267,17 +267,17 @@ fn growth_row(what: &str, input: &Input) {
         Box::new(|| _ = black_box(library::write_text(black_box(&input.file), &tree, 0, &mut text))),
         Box::new(|| _ = black_box(library::take_answer(black_box(&input.file), &tree, &input.answer, &mut values))),
     ];
-    let [checked, written, taken] = in_turns(&mut contenders)[..] else { unreachable!() };
+    let [checked, written, taken] = &in_turns(&mut contenders)[..] else { unreachable!() };
     row(&[
         what.to_string(),
         grouped(nodes),
         grouped(variables),
         grouped(clauses),
         grouped(used),
-        shown(checked.median),
-        shown(written.median),
-        format!("{:.1}", written.median * 1e9 / used as f64),
-        shown(taken.median),
-        format!("{:.0}", taken.median * 1e9 / clauses as f64),
+        shown(checked.median()),
+        shown(written.median()),
+        format!("{:.1}", written.median() * 1e9 / used as f64),
+        shown(taken.median()),
+        format!("{:.0}", taken.median() * 1e9 / clauses as f64),
     ]);
 }
