@@ -1,37 +1,29 @@
+-- `curdfuture::curdfuture_build` meets its contract: by what the call that it crosses ensures.
+-- Assumes nothing.
 use borrow.Author.Needs.{needs}
 use Rattle.curdfuture.proofs.curdfuture_build.Statement.{statement}
 use Rattle.curdfuture.proofs.curdfuture_build.Tie as tie
-use Rattle.curdfuture.proofs.curdfuture_build.Reads as reads
-use Rattle.curdfuture.proofs.curdfuture_build.Lts as lts
-use Rattle.encoding.proofs.build.Reads as build-reads
 use mathlib.Core.Path.{refl}
 use Rattle.curdfuture.proofs.Crossing.{refusal, laid}
 
--- src/lib.rt:46:9
 build-requires : tie.Need-build-requires
 build-requires c κs = search needs
 
--- src/lib.rt:48:24
 enum-known-built : tie.Need-enum-known-built
 enum-known-built c = search needs
 
--- src/lib.rt:49:22
 enum-known-built-2 : tie.Need-enum-known-built-2
 enum-known-built-2 c = search needs
 
--- src/lib.rt:38:1
 same-length : tie.Need-same-length
 same-length c = search needs
 
--- src/lib.rt:38:1
 returns : tie.Need-returns
 returns c = (refusal _ _ _ (rw (c .before .built .given .1) at (c .before .before .before .before .before .build .ensures .0)), c .before .before .before .before .before .build .ensures .1)
 
--- src/lib.rt:38:1
 same-length-2 : tie.Need-same-length-2
 same-length-2 c = search needs
 
--- src/lib.rt:38:1
 returns-2 : tie.Need-returns-2
 returns-2 c = (laid _ _ _ refl (rw (c .before .built2 .given .1) at (c .before .before .before .before .before .build .ensures .0)), c .before .before .before .before .before .build .ensures .1)
 

@@ -20,8 +20,7 @@ fn main() {
         std::process::exit(1);
     };
     let stored = |name: &str| Input::stored(&crates, name);
-    let largest =
-        [stored("formulas/large-wide"), stored("formulas/c313-large-variables-8191"), stored("formulas/c312-large-nodes-1024")];
+    let largest = [stored("formulas/large-wide"), stored("formulas/c313-large-variables-8191"), stored("formulas/c312-large-nodes-1024")];
     machine();
     whole_formulas(&largest);
     text_calls(&largest[0]);
@@ -102,7 +101,19 @@ fn grouped(number: usize) -> String {
 // What is measured
 
 fn whole_formulas(inputs: &[Input]) {
-    let columns = ["table", "variables", "clauses", "bytes", "one text call", "direct Rust", "ratio", "second planner", "ratio", "copying the bytes", "ratio"];
+    let columns = [
+        "table",
+        "variables",
+        "clauses",
+        "bytes",
+        "one text call",
+        "direct Rust",
+        "ratio",
+        "second planner",
+        "ratio",
+        "copying the bytes",
+        "ratio",
+    ];
     title("Whole formula", &columns);
     for input in inputs {
         let tree = input.tree();
@@ -139,7 +150,10 @@ fn whole_formulas(inputs: &[Input]) {
 }
 
 fn text_calls(input: &Input) {
-    title(&format!("One text call on {}, by its first line", input.name), &["buffer", "line", "bytes used", "text call", "direct Rust", "ratio"]);
+    title(
+        &format!("One text call on {}, by its first line", input.name),
+        &["buffer", "line", "bytes used", "text call", "direct Rust", "ratio"],
+    );
     let tree = input.tree();
     let [_, _, clauses] = input.counts();
     for room in [TEXT_BYTES, 65_536] {
@@ -161,7 +175,10 @@ fn text_calls(input: &Input) {
 }
 
 fn answers(inputs: &[Input]) {
-    title("Taking an answer", &["table", "variables", "clauses", "answer's bytes", "take_answer", "direct Rust", "ratio", "second planner", "ratio"]);
+    title(
+        "Taking an answer",
+        &["table", "variables", "clauses", "answer's bytes", "take_answer", "direct Rust", "ratio", "second planner", "ratio"],
+    );
     for input in inputs {
         let tree = input.tree();
         let [mut values, mut own, mut wanted] = [vec![7; VALUES], vec![7; VALUES], vec![7; VALUES]];
@@ -202,7 +219,8 @@ fn readings(inputs: &[Input]) {
             Box::new(|| _ = black_box(second::check(black_box(&input.file)))),
         ];
         let [ours, rust, planner] = &in_turns(&mut contenders)[..] else { unreachable!() };
-        let told = outcome.map_or_else(|refused| format!("refused {}", refused.0), |[_, _, clauses]| format!("{} clauses", grouped(clauses)));
+        let told =
+            outcome.map_or_else(|refused| format!("refused {}", refused.0), |[_, _, clauses]| format!("{} clauses", grouped(clauses)));
         row(&[
             input.name.clone(),
             grouped(input.file.len()),
@@ -222,7 +240,12 @@ fn readings(inputs: &[Input]) {
 fn grown(jobs: usize, width: usize, facts: usize) -> Input {
     let names = |kind: &str, count: usize| -> Vec<String> { (0..count).map(|number| format!("{kind}{number}")).collect() };
     let facts = names("f", facts);
-    let step = |name: String| DraftStep { name, needs: Vec::new(), sets: facts[..facts.len() / 2].to_vec(), clears: facts[facts.len() / 2..].to_vec() };
+    let step = |name: String| DraftStep {
+        name,
+        needs: Vec::new(),
+        sets: facts[..facts.len() / 2].to_vec(),
+        clears: facts[facts.len() / 2..].to_vec(),
+    };
     let steps: Vec<DraftStep> = names("s", 8).into_iter().map(step).collect();
     let mut methods = vec![("root".to_string(), vec!["row".to_string(); jobs])];
     methods.extend(steps.iter().map(|step| ("row".to_string(), vec![step.name.clone(); width])));
@@ -242,12 +265,11 @@ fn first_ways(file: &[u8]) -> Vec<u8> {
 }
 
 fn growth() {
-    let columns = ["what grows", "nodes", "variables", "clauses", "bytes of text", "check", "whole text", "ns a byte", "take_answer", "ns a clause"];
+    let columns =
+        ["what grows", "nodes", "variables", "clauses", "bytes of text", "check", "whole text", "ns a byte", "take_answer", "ns a clause"];
     title("Growth", &columns);
-    let series: [(&str, Vec<(usize, usize, usize)>); 2] = [
-        ("nodes", vec![(1, 8, 8), (2, 8, 8), (4, 8, 8), (8, 8, 8)]),
-        ("facts", vec![(8, 8, 4), (8, 8, 16), (8, 8, 32), (8, 8, 64)]),
-    ];
+    let series: [(&str, Vec<(usize, usize, usize)>); 2] =
+        [("nodes", vec![(1, 8, 8), (2, 8, 8), (4, 8, 8), (8, 8, 8)]), ("facts", vec![(8, 8, 4), (8, 8, 16), (8, 8, 32), (8, 8, 64)])];
     for (what, sizes) in series {
         for (jobs, width, facts) in sizes {
             growth_row(what, &grown(jobs, width, facts));

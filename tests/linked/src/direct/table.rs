@@ -60,9 +60,7 @@ fn formed(line: &[u8]) -> Option<(u8, Fields<'_>)> {
 }
 
 fn is_name(field: &[u8]) -> bool {
-    matches!(field, [b'a'..=b'z', ..])
-        && field.len() <= 12
-        && field.iter().all(|byte| matches!(byte, b'a'..=b'z' | b'0'..=b'9' | b'-'))
+    matches!(field, [b'a'..=b'z', ..]) && field.len() <= 12 && field.iter().all(|byte| matches!(byte, b'a'..=b'z' | b'0'..=b'9' | b'-'))
 }
 
 fn is_list(field: &[u8]) -> bool {
