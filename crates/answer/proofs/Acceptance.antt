@@ -1,7 +1,7 @@
 -- What an accepted file's table and names are like.
 -- By the promises of the reader.
-use mathlib.Core.Path.{_≡_, refl, sym, ap, _∙_, subst}
-use mathlib.Core.Bool.{Bool, true, false, _&&_}
+use mathlib.Core.Path.{_≡_, refl, ap, subst}
+use mathlib.Core.Bool.{true, _&&_}
 use mathlib.Core.List.{List, [], _∷_, _++_, map}
 use Prim.Native.Nat.{ℕ, zero, suc, _≤_}
 use native.Mathlib.Omega.{arith}
@@ -9,7 +9,7 @@ use lib.Dec.{leb}
 use lib.ListN.{length}
 use Rattle.lists.specs.List.{all, Every}
 use Rattle.lists.specs.Question.{firstUnmet}
-use Rattle.lists.proofs.Bool.{leb-sound, and-r, clash}
+use Rattle.lists.proofs.Bool.{leb-sound, and-r}
 use Rattle.lists.proofs.Question.{all-met}
 use Rattle.planning.specs.Table.{Table}
 use Rattle.planning.specs.Place.{rootPlace, nodes}
@@ -22,7 +22,7 @@ use Rattle.table.specs.Reading.{NameParts, Reading, refused, passed, reading}
 use Rattle.table.specs.Promises.{Promised}
 use Rattle.table.proofs.Promised.{promises}
 use Rattle.listing.specs.Listing.{shownNames, ShortNames}
-use Rattle.questions.specs.Questions.{met8, met9, Verdict, unmet, accepted, ifMet, afterReading, accepting, namesAfter, namesOf}
+use Rattle.questions.specs.Questions.{met8, met9, unmet, accepted, ifMet, afterReading, accepting, namesAfter, namesOf}
 
 -- the file was read, as this table with these names, and 8 and 9 are met
 record WasRead (file : List ℕ) (T : Table) : Type 0 where

@@ -1,7 +1,7 @@
 -- Document 01's example through both calls, and an answer for each question that turns one down.
 -- By computing, for every tree that is the table's own and every buffer that is long enough.
-use mathlib.Core.Path.{_≡_, refl, ap, ap₂, _∙_}
-use mathlib.Core.Bool.{Bool, true, _&&_}
+use mathlib.Core.Path.{_≡_, ap, ap₂}
+use mathlib.Core.Bool.{true, _&&_}
 use mathlib.Core.List.{List, [], _∷_, _++_}
 use Prim.Native.Nat.{ℕ}
 use lib.ListN.{length, drop}
@@ -11,7 +11,7 @@ use Rattle.planning.specs.Model.{given}
 use Rattle.planning.specs.Marked.{shown as shownTable}
 use Rattle.lines.specs.Bytes.{digit, sameBytes}
 use Rattle.lines.specs.Parts.{split, ended}
-use Rattle.table.specs.Reading.{NameParts, Reading, passed, reading}
+use Rattle.table.specs.Reading.{NameParts, passed, reading}
 use Rattle.table.proofs.Computed.{marked-files}
 use Rattle.tree.specs.Words.{met10}
 use Rattle.solver.specs.File.{answerOf}

@@ -1,6 +1,6 @@
 -- Demand 3, whole, for every accepted file.
 -- The answers from the questions of the calls, one by one; models and trees from crate `planning`.
-use mathlib.Core.Path.{_≡_, refl, sym, ap, ap₂, _∙_, subst}
+use mathlib.Core.Path.{_≡_, refl, sym, ap, _∙_, subst}
 use mathlib.Core.Bool.{Bool, true, false, _&&_}
 use mathlib.Core.List.{List, [], _∷_, _++_}
 use mathlib.Core.Logic.{_↔_}
@@ -20,8 +20,7 @@ use Rattle.planning.specs.Tree.{Tree, TreeOf}
 use Rattle.planning.specs.Record.{records}
 use Rattle.planning.specs.Variable.{variables}
 use Rattle.planning.specs.Clause.{Lit, formula}
-use Rattle.planning.specs.Model.{value, satisfies, Model, given, Gives, bits, truthsIn}
-use Rattle.planning.specs.Accepted.{Accepted}
+use Rattle.planning.specs.Model.{value, satisfies, Model, Gives, bits, truthsIn}
 use Rattle.planning.proofs.Demand3.{demand3}
 use Rattle.tree.specs.Words.{treeWords, met10}
 use Rattle.solver.specs.Line.{Word, satisfiable, unsatisfiable, unknown}
@@ -29,12 +28,12 @@ use Rattle.solver.specs.File.{Answer, answerOf}
 use Rattle.solver.specs.Questions.{isSome, saysSatisfiable, numbersSaid, met12, met13, met14, onceEach, truths}
 use Rattle.solver.proofs.Once.{once-out, once-in, truths-length}
 use Rattle.solver.proofs.File.{answerFile, literals, file-length, file-says, file-met14, file-values}
-use Rattle.listing.specs.Listing.{Names, shownNames, listing}
+use Rattle.listing.specs.Listing.{shownNames, listing}
 use Rattle.listing.proofs.Walked.{walked-is}
 use Rattle.listing.proofs.Fits.{walked-fits}
 use Rattle.questions.specs.Questions.{Verdict, accepted, accepting, namesOf, enoughTree, byNumber, byVerdict, asked, turnedDown, taken}
 use Rattle.questions.proofs.Asked.{asked-accepted}
-use Rattle.answer.specs.Calls.{enoughValues, enoughListing, met15, answered, questionsTaking, taking, valuesAfter, own, lent14, lent, questionsListing, listingOf, shown, showing, listingAfter}
+use Rattle.answer.specs.Calls.{enoughValues, enoughListing, met15, answered, questionsTaking, taking, valuesAfter, own, lent14, lent, questionsListing, listingOf, shown, showing}
 use Rattle.answer.specs.Demand3.{OwnTree, SaysSatisfiable, SetsAndSatisfies, Takes, Lists, ForEveryAcceptedFile}
 use Rattle.answer.proofs.Questions.{FiveMet, five-met, five-of, lent-all, lent-met}
 use Rattle.answer.proofs.Acceptance.{accepted-table, short-names}

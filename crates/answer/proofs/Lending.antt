@@ -9,7 +9,6 @@ use lib.ListN.{length, take}
 use lib.Seq.{length-take-le}
 use Rattle.planning.specs.Table.{Table}
 use Rattle.planning.specs.Record.{records}
-use Rattle.table.specs.Reading.{NameParts}
 use Rattle.table.specs.Layout.{namePartsFrom}
 use Rattle.tree.specs.Words.{treeWords, met10}
 use Rattle.shape.specs.Shape.{Indexed}

@@ -6,7 +6,6 @@ use mathlib.Core.List.{List, [], _∷_}
 use Prim.Native.Nat.{ℕ}
 use native.Mathlib.Omega.{arith}
 use Rattle.lists.specs.Question.{firstUnmet}
-use Rattle.questions.specs.Questions.{byNumber}
 
 -- Taking an answer: 10, 12 to 15 ---------------------------------------------------------------------------------------------------
 abbrev pub five : (a b c d e : Bool) → List (ℕ × Bool)

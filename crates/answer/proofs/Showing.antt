@@ -1,9 +1,8 @@
 -- What the part of the call that lists a procedure leaves, question by question.
 -- By the first question that is not met; where all are met the values are a model, and it gives a tree.
-use mathlib.Core.Path.{_≡_, refl, sym, ap, ap₂, _∙_, subst}
+use mathlib.Core.Path.{_≡_, refl, sym, ap, ap₂, _∙_}
 use mathlib.Core.Bool.{Bool, true, false, not}
 use mathlib.Core.List.{List, [], _∷_, _++_}
-use mathlib.Core.Option.{Option, none, some}
 use Prim.Native.Nat.{ℕ, zero, suc, _≤_}
 use native.Mathlib.Omega.{arith}
 use lib.Dec.{eqb, leb}
@@ -15,20 +14,18 @@ use Rattle.lists.specs.Written.{Wrote}
 use Rattle.lists.proofs.Bool.{said-no, said-yes}
 use Rattle.lists.proofs.Written.{wrote-whole}
 use Rattle.planning.specs.Table.{Table}
-use Rattle.planning.specs.Tree.{Tree}
 use Rattle.planning.specs.Variable.{variables}
 use Rattle.planning.specs.Clause.{formula}
-use Rattle.planning.specs.Model.{value, satisfies, Model, given, Gives, truthsIn}
+use Rattle.planning.specs.Model.{value, satisfies, Model, truthsIn}
 use Rattle.planning.specs.Accepted.{Accepted}
 use Rattle.planning.proofs.Demand3.{demand3}
 use Rattle.tree.specs.Words.{met10}
-use Rattle.listing.specs.Listing.{Names, shownNames, listing}
+use Rattle.listing.specs.Listing.{Names, shownNames}
 use Rattle.listing.specs.Walk.{walked, valueOf}
 use Rattle.listing.proofs.Walked.{walked-is}
-use Rattle.questions.specs.Questions.{namesOf, byNumber, turnedDown, taken}
+use Rattle.questions.specs.Questions.{namesOf, taken}
 use Rattle.answer.specs.Calls.{met15, own, lent14, lent, questionsListing, listingOf, shown}
 use Rattle.answer.specs.Parts.{Showed}
-use Rattle.answer.specs.declared.Listed.{Listed}
 use Rattle.answer.specs.declared.Listed.the-variants.{Refused, Written}
 use Rattle.answer.proofs.Questions.{lent-10, lent-14, lent-15, lent-all}
 

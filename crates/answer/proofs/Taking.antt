@@ -19,10 +19,9 @@ use Rattle.solver.specs.Scan.{Heard}
 use Rattle.solver.proofs.Once.{truths-length}
 use Rattle.solver.proofs.Reading.{heard-is}
 use Rattle.cells.specs.Read.{Read}
-use Rattle.questions.specs.Questions.{byNumber, turnedDown, taken}
+use Rattle.questions.specs.Questions.{taken}
 use Rattle.answer.specs.Calls.{met15, answered, questionsTaking}
 use Rattle.answer.specs.Parts.{Took}
-use Rattle.answer.specs.declared.Taken.{Taken}
 use Rattle.answer.specs.declared.Taken.the-variants.{Refused, Values}
 use Rattle.answer.proofs.Questions.{unmet-10, unmet-three, unmet-15, all-five}
 use Rattle.answer.proofs.Bits.{bits-back, bits-length}

@@ -11,7 +11,7 @@ use lib.Dec.{eqb, ltb, lit<}
 use lib.ListN.{length, getD, set, replicate, length-replicate, length-set}
 use lib.Pow.{mod-pow-add, pow-lt}
 use borrow.Author.Tests.{lt-ltb}
-use Rattle.lists.specs.List.{filter, upTo, has, Every, Rising}
+use Rattle.lists.specs.List.{upTo, has, Every, Rising}
 use Rattle.lists.proofs.Bool.{clash, and-on}
 use Rattle.lists.proofs.Every.{every-getD}
 use Rattle.lists.proofs.Member.{filter-same}

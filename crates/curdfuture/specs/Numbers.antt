@@ -12,11 +12,11 @@ questionOf (turnedDown n) = n
 questionOf (taken values) = 0
 
 -- the numbers that were lent for the values: the values, or all as they were
-abbrev pub valuesAfter : HandedBack → List ℕ → List ℕ
-valuesAfter (turnedDown n) lent = lent
-valuesAfter (taken values) lent = values ++ drop (length values) lent
+abbrev pub numbersAfter : HandedBack → List ℕ → List ℕ
+numbersAfter (turnedDown n) lent = lent
+numbersAfter (taken values) lent = values ++ drop (length values) lent
 
 -- h came back as the number r, and in the lent numbers
 pub record Crossed (h : HandedBack) (lent lent′ : List ℕ) (r : ℕ) : Type 0 where
   pub question : r ≡ questionOf h
-  pub values : lent′ ≡ valuesAfter h lent
+  pub numbers : lent′ ≡ numbersAfter h lent

@@ -1,28 +1,24 @@
 -- Counts by node and part, and the search for a clause.
 -- By the laws of sums and of what is left from a place on.
-use mathlib.Core.Path.{_≡_, refl, sym, ap, ap₂, _∙_, subst}
-use mathlib.Core.List.{List, [], _∷_, _++_}
-use mathlib.Core.Logic.{_⊎_, inl, inr}
+use mathlib.Core.Path.{_≡_, refl, sym, ap, _∙_}
+use mathlib.Core.List.{List, [], _∷_}
+use mathlib.Core.Logic.{inl, inr}
 use Prim.Native.Nat.{ℕ, zero, suc, _+_, _-_, _*_, _≤_, _<_}
 use native.Mathlib.Numerals.{add-one}
 use native.Mathlib.Nat.{mul-suc}
 use native.Mathlib.Omega.{arith}
 use lib.ListN.{length, drop}
 use lib.Seq.{drop-drop, drop-nil}
-use Rattle.lists.specs.List.{concatMap, from, upTo}
-use Rattle.lists.proofs.Number.{length-from}
 use Rattle.planning.specs.Table.{Table}
-use Rattle.places.specs.Nest.{Pos, at, left, positions, row, rows, columns, groupsFrom, upFrom}
+use Rattle.places.specs.Nest.{at, left, positions, row, rows, columns, upFrom}
 use Rattle.places.specs.ClausePlace.{Source, shape, groupAt, groupsIn, nodesIn, rowLen}
-use Rattle.places.specs.Cursor.{Seeking, begin}
+use Rattle.places.specs.Cursor.{Seeking}
 use Rattle.places.specs.Total.{sumTo, countAt, clauseCount}
-use Rattle.places.proofs.Formula.{good}
 use Rattle.places.proofs.Next.{seek-start, seek-node}
 use Rattle.places.proofs.Total.{sumTo-same, length-concatMap, count-node}
 use Rattle.places.proofs.Walk.{left-clause}
 use Rattle.index.specs.Index.{source}
-use Rattle.shape.specs.Shape.{Indexed, InGroup}
-use Rattle.cursor.specs.Cursor.{posOf, ofPos, leftIn, Stands, atEnd, In, rowEnd, Moved, NodePassed, columnsCount, SoughtRow, Found}
+use Rattle.cursor.specs.Cursor.{posOf, ofPos, leftIn, In, Moved, NodePassed, columnsCount, SoughtRow, Found}
 use Rattle.cursor.specs.declared.Cursor.{Cursor}
 use Rattle.cursor.proofs.Moves.{left-at-end, stands-of, start-stands}
 
@@ -72,10 +68,6 @@ module _ (S : Source) (r n : ℕ) where
   node-count h =
       sym (up-length (λ z. columns (shape S) r n z 0) (groupsIn r) ∙ sumTo-same _ _ (groupsIn r) (λ g l. letter-length g))
       ∙ count-node S r n h
-
-pub all-count : (S : Source) {a b c d : ℕ} → a ≡ sumTo (countAt S 0) (nodesIn S 0) → b ≡ sumTo (countAt S 1) (nodesIn S 1) → c ≡ sumTo (countAt S 2) (nodesIn S 2) → d ≡ sumTo (countAt S 3) (nodesIn S 3)
-    → a + b + c + d ≡ clauseCount S
-all-count S p q r s = omega (arith, p, q, r, s)
 
 -- Seeking ----------------------------------------------------------------------------------------------------------------------
 -- passing over places of a row

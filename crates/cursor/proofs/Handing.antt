@@ -12,7 +12,6 @@ use Rattle.places.proofs.Cursor.{left-behind}
 use Rattle.index.specs.Index.{source}
 use Rattle.cursor.specs.Cursor.{posOf, ofPos, leftIn, answerOf, nextOf}
 use Rattle.cursor.specs.declared.Cursor.{Cursor}
-use Rattle.cursor.specs.declared.Next.{Next}
 use Rattle.cursor.specs.declared.Next.the-variants.{Clause, End}
 
 module _ (T : Table) (c : Cursor) where

@@ -1,15 +1,14 @@
 -- The cursor's moves: one law for each way that the code goes on.
 -- By the laws of what is left from a place on.
-use mathlib.Core.Path.{_≡_, refl, sym, ap, _∙_, subst}
-use mathlib.Core.List.{List, [], _∷_, _++_}
-use mathlib.Core.Logic.{_⊎_, inl, inr}
+use mathlib.Core.Path.{_≡_, refl, sym, ap, _∙_}
+use mathlib.Core.List.{List, []}
+use mathlib.Core.Logic.{inl, inr}
 use Prim.Native.Nat.{ℕ, zero, suc, _+_, _-_, _*_, _≤_, _<_}
 use native.Mathlib.Omega.{arith}
-use lib.ListN.{length}
 use Rattle.lists.proofs.Order.{ne-lt}
 use Rattle.planning.specs.Table.{Table}
 use Rattle.planning.specs.Place.{rootPlace}
-use Rattle.places.specs.Nest.{Pos, at, left, positions}
+use Rattle.places.specs.Nest.{at, left}
 use Rattle.places.specs.ClausePlace.{Source, shape, groupAt, groupsIn, nodesIn, rowLen}
 use Rattle.places.proofs.Formula.{good}
 use Rattle.places.proofs.Walk.{left-clause, left-row, left-column, left-group, left-node}
@@ -19,9 +18,8 @@ use Rattle.index.proofs.Known.{nodes-count}
 use Rattle.shape.specs.Shape.{Indexed, InGroup}
 use Rattle.shape.proofs.Nodes.{few-nodes, few-slots}
 use Rattle.tree.proofs.Visits.{nodes-some}
-use Rattle.cursor.specs.Cursor.{posOf, ofPos, leftIn, answerOf, nextOf, Stands, atEnd, In, Holds, Handed, rankOf, rowEnd, Moved, NodePassed}
+use Rattle.cursor.specs.Cursor.{ofPos, leftIn, answerOf, nextOf, Stands, atEnd, In, Handed, rowEnd, Moved, NodePassed}
 use Rattle.cursor.specs.declared.Cursor.{Cursor}
-use Rattle.cursor.specs.declared.Next.{Next}
 use Rattle.cursor.specs.declared.Next.the-variants.{Clause, End}
 
 pub letter-of : {T : Table} {ix : List ℕ} {c : Cursor} → Indexed T ix → Stands T c → InGroup T ix (c .rule) (c .node) (c .group)

@@ -1,10 +1,10 @@
--- The clause cursor: what its method hands back, outright. The places it goes through are those of crate `places`, whose clauses in this
+-- The clause cursor: what its method `next` hands back, outright, and what is left behind a row or a node that is passed over. The places it goes through are those of crate `places`, whose clauses in this
 -- order are planning's formula. Assumes nothing.
 use mathlib.Core.Path.{_≡_}
 use mathlib.Core.List.{List, [], _∷_}
 use mathlib.Core.Logic.{_⊎_}
-use Prim.Native.Nat.{ℕ, suc, _+_, _-_, _*_, _≤_, _<_}
-use lib.ListN.{length, drop}
+use Prim.Native.Nat.{ℕ, _+_, _-_, _*_, _≤_, _<_}
+use lib.ListN.{drop}
 use Rattle.planning.specs.Table.{Table}
 use Rattle.places.specs.Nest.{Pos, at, left, positions}
 use Rattle.places.specs.ClausePlace.{Source, shape, groupAt, groupsIn, nodesIn, rowLen}

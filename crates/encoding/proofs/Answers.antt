@@ -1,11 +1,10 @@
 -- What each call answers, question by question.
 -- By the definition of the calls.
-use mathlib.Core.Path.{_≡_, refl, sym, ap, ap₂, _∙_, subst}
-use mathlib.Core.Bool.{Bool, true, false, cond, _&&_}
+use mathlib.Core.Path.{_≡_, refl, sym, ap₂, _∙_}
+use mathlib.Core.Bool.{true, false, _&&_}
 use mathlib.Core.List.{List, [], _∷_, _++_}
 use Prim.Native.Nat.{ℕ, _+_, _≤_, _<_}
 use native.Mathlib.Omega.{arith}
-use lib.Dec.{leb}
 use lib.ListN.{length, drop}
 use Rattle.lists.specs.Question.{firstUnmet}
 use Rattle.lists.specs.Written.{Wrote}
@@ -20,12 +19,12 @@ use Rattle.planning.specs.Text.{written, bytesUsed, nextLine}
 use Rattle.tree.specs.Words.{treeWords, met10}
 use Rattle.text.specs.Lines.{PutText}
 use Rattle.text.specs.declared.Lines.{Lines}
-use Rattle.encoding.specs.Calls.{met11, enoughText, textFrom, checking, building, treeAfter, questionsWriting, writing, textAfter}
+use Rattle.encoding.specs.Calls.{enoughText, textFrom, checking, building, treeAfter, questionsWriting, writing, textAfter}
 use Rattle.encoding.specs.Parts.{Lined}
 use Rattle.encoding.specs.declared.Text.{Text}
 use Rattle.encoding.specs.declared.Text.the-variants.{Refused, Written}
-use Rattle.questions.specs.Questions.{enoughTree, byNumber, asked, turnedDown, taken}
-use Rattle.questions.specs.Parts.{IsPrepared, Placed}
+use Rattle.questions.specs.Questions.{enoughTree, turnedDown, taken}
+use Rattle.questions.specs.Parts.{IsPrepared}
 use Rattle.questions.specs.declared.Prepared.{Prepared}
 use Rattle.questions.proofs.Asked.{asked-short, asked-unmet, asked-met}
 

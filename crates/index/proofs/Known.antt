@@ -1,28 +1,24 @@
 -- What the index of a table has where: of a node, of a slot, of a variable.
 -- By the laws of blocks, and by recursion on the records.
-use mathlib.Core.Path.{_≡_, refl, sym, ap, ap₂, _∙_}
-use mathlib.Core.Bool.{Bool, true, false, cond}
+use mathlib.Core.Path.{_≡_, refl, sym, ap, _∙_}
 use mathlib.Core.List.{List, [], _∷_, _++_, map}
-use mathlib.Core.Logic.{_⊎_, inl, inr}
-use Prim.Native.Nat.{ℕ, zero, suc, _+_, _-_, _*_, _≤_, _<_}
+use Prim.Native.Nat.{ℕ, suc, _+_, _-_, _*_, _≤_, _<_}
 use native.Mathlib.Omega.{arith}
-use lib.ListN.{length, getD, take, drop, length-append, length-map, List·getD-append, List·getD-eq-default}
+use lib.ListN.{length, getD, length-map, List·getD-append, List·getD-eq-default}
 use lib.Seq.{getD-append-add}
-use Rattle.lists.specs.List.{concatMap, number, upTo, Every, Rising}
+use Rattle.lists.specs.List.{concatMap, upTo, Rising}
 use Rattle.lists.proofs.Number.{length-from}
 use Rattle.lists.proofs.Place.{getD-map-from, one-word}
 use Rattle.bitset.specs.Set.{members, setOf}
 use Rattle.bitset.proofs.Promises.{promises}
 use Rattle.planning.specs.Table.{Table}
 use Rattle.planning.specs.Place.{rootPlace, nodes}
-use Rattle.planning.specs.Record.{Record, records}
-use Rattle.planning.specs.Accepted.{Accepted}
+use Rattle.planning.specs.Record.{records}
 use Rattle.planning.proofs.Record.{records-count}
-use Rattle.places.specs.Flat.{Node, Child, inner, own, ownAll, jobsAt, methodsAt, nodeOf, nodesFrom, slotsFrom}
-use Rattle.places.specs.ClausePlace.{noNode, childAt, nodeAt, slotAt, methodAt, tasksN, methodVar, sourceOf}
-use Rattle.places.specs.Lookup.{recordAt, firstVar}
-use Rattle.places.proofs.Lookup.{node-at, nodes-length}
-use Rattle.index.specs.Index.{wordOf, nodeWords, meanings, slotNodes, source, indexOf, nodesIn, slotsIn, firstFactIn, nodeWordIn, slotNodeIn, meaningIn, Few}
+use Rattle.places.specs.Flat.{Node}
+use Rattle.places.specs.ClausePlace.{noNode, childAt, nodeAt}
+use Rattle.places.proofs.Lookup.{nodes-length}
+use Rattle.index.specs.Index.{wordOf, nodeWords, meanings, slotNodes, source, indexOf, nodeWordIn}
 use Rattle.index.proofs.Blocks.{fifteens, length-fifteens}
 
 -- past the last word

@@ -1,23 +1,22 @@
 -- What the index of a table has of a slot, of a variable and of a child.
 -- By recursion on the records.
-use mathlib.Core.Path.{_≡_, refl, sym, ap, ap₂, _∙_, subst}
+use mathlib.Core.Path.{_≡_, refl, sym, ap, _∙_, subst}
 use mathlib.Core.Bool.{Bool, true, false, cond}
-use mathlib.Core.List.{List, [], _∷_, _++_, append-assoc}
+use mathlib.Core.List.{List, [], _∷_, _++_}
 use Prim.Native.Nat.{ℕ, zero, suc, _+_, _-_, _*_, _≤_, _<_}
 use native.Mathlib.Omega.{arith}
-use lib.ListN.{length, getD, take, drop, length-append, List·getD-append}
+use lib.ListN.{length, getD, take, length-append, List·getD-append}
 use lib.Seq.{getD-append-add}
-use Rattle.lists.specs.List.{concatMap, number, Every}
+use Rattle.lists.specs.List.{concatMap, number}
 use Rattle.planning.specs.Table.{Table}
 use Rattle.planning.specs.Record.{Record, records}
-use Rattle.planning.proofs.Record.{LabelIn, records-rising}
+use Rattle.planning.proofs.Record.{records-rising}
 use Rattle.places.specs.Flat.{Node, Child, inner, own, ownAll, jobsAt, methodsAt, nodeOf, nodesFrom, slotsFrom}
-use Rattle.places.specs.ClausePlace.{noNode, childAt, nodeAt, slotAt, methodAt, tasksN, methodVar}
+use Rattle.places.specs.ClausePlace.{childAt, nodeAt, methodAt, tasksN, methodVar}
 use Rattle.places.specs.Lookup.{recordAt, firstVar, ChildIn}
 use Rattle.places.proofs.Lookup.{node-at, nodes-length}
-use Rattle.places.proofs.Literals.{nodeIn}
 use Rattle.places.proofs.Literals
-use Rattle.index.specs.Index.{nodeWords, meanings, slotNodes, source, indexOf, nodesIn, slotsIn, slotNodeIn, meaningIn, SlotAt, ChildAt}
+use Rattle.index.specs.Index.{nodeWords, meanings, slotNodes, source, indexOf, slotNodeIn, meaningIn, SlotAt, ChildAt}
 use Rattle.index.proofs.Known.{behind, nodes-end}
 
 -- Slots --------------------------------------------------------------------------------------------------------------------------

@@ -59,7 +59,7 @@ nodeWordIn ix n k = getD ix (3 + 15 * n + k) 0
 abbrev pub slotNodeIn : List ℕ → ℕ → ℕ
 slotNodeIn ix k = getD ix (3 + 15 * nodesIn ix + k) 0
 
--- the word that says what variable 1 stands for, and what variable v does
+-- the place of the word that says what variable 1 stands for; what variable v does
 abbrev pub meaningsAt : List ℕ → ℕ
 meaningsAt ix = 3 + 15 * nodesIn ix + slotsIn ix
 

@@ -21,10 +21,6 @@ slice-take a b k s h = take-drop a k (take b s) ∙ ap (drop a) (take-take (a + 
 pub slice-drop : (a b k : ℕ) (s : List ℕ) → drop k (slice a b s) ≡ slice (a + k) b s
 slice-drop a b k s = drop-drop k a (take b s)
 
--- a part taken as `&s[a..a + n]`
-pub part-slice : (a n : ℕ) (s : List ℕ) → take (a + n - a) (drop a s) ≡ slice a (a + n) s
-part-slice a n s = let q : a + n - a ≡ n = omega arith in ap (λ (k : ℕ). take k (drop a s)) q ∙ take-drop a n s
-
 pub slice-one : (s : List ℕ) (a b : ℕ) → b ≤ length s → b - a ≡ 1 → slice a b s ≡ getD s a 0 ∷ []
 slice-one s a b h e =
     let q : suc a ≡ b = omega arith in

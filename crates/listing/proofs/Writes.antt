@@ -1,14 +1,13 @@
 -- What the code writes: the fields of a line one behind the other, the lines of rows.
 -- By the laws of writes.
-use mathlib.Core.Path.{_≡_, refl, sym, ap, _∙_}
+use mathlib.Core.Path.{_≡_, refl, sym, ap}
 use mathlib.Core.List.{List, [], _∷_, _++_, append-assoc, append-nil}
-use Prim.Native.Nat.{ℕ, suc, _+_, _≤_, _<_}
+use Prim.Native.Nat.{ℕ, suc, _+_, _≤_}
 use native.Mathlib.Numerals.{add-one}
 use native.Mathlib.Omega.{arith}
-use lib.ListN.{length, getD, take}
-use lib.Seq.{take-suc, take-all, length-take-le}
+use lib.ListN.{length, getD}
 use Rattle.lists.specs.Written.{Wrote}
-use Rattle.lists.proofs.Written.{wrote-none, wrote-append, wrote-same, wrote-length}
+use Rattle.lists.proofs.Written.{wrote-none, wrote-append, wrote-same}
 use Rattle.planning.specs.Text.{decimal}
 use Rattle.listing.specs.Listing.{Names, Row, jobRow, stepRow, jobLine, stepLine, rowLines}
 use Rattle.listing.specs.Walk.{WroteRows}

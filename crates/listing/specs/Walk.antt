@@ -4,7 +4,7 @@ use mathlib.Core.Path.{_≡_}
 use mathlib.Core.List.{List, [], _∷_}
 use mathlib.Core.Option.{Option, none, some}
 use Prim.Native.Nat.{ℕ, suc, _+_, _≤_, _<_}
-use lib.ListN.{length, getD}
+use lib.ListN.{length}
 use Rattle.lists.specs.List.{concatMap, findIndex, from, upTo}
 use Rattle.lists.specs.Written.{Wrote}
 use Rattle.planning.specs.Table.{Task, step, job, Table}

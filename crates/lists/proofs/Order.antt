@@ -30,9 +30,6 @@ le-next h = omega arith
 pub ne-lt-one : {a b : ℕ} → a ≤ b → (a ≡ b → ⊥) → a + 1 ≤ b
 ne-lt-one h n = omega arith
 
-pub add-fits : {a b m : ℕ} → a ≤ b → (a ≡ b → ⊥) → b < m → a + 1 < m
-add-fits h n f = omega arith
-
 pub falls : {i a b : ℕ} → i ≤ a → a ≤ b → (a ≡ b → ⊥) → b - (a + 1) < b - i
 falls l h n = omega arith
 

@@ -21,9 +21,6 @@ module _ (vs : List ℕ) where
   value-at zero = refl
   value-at (suc v) = List·getD-map (eqb 1) vs v 0
 
-  pub value-zero : {v : ℕ} → v ≡ 0 → false ≡ value (truthsIn vs) v
-  value-zero e = rw e
-
   pub value-past : {v : ℕ} → length vs < v → false ≡ value (truthsIn vs) v
   value-past {v} h = go v h
     where

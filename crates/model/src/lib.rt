@@ -9,8 +9,8 @@ ghost use Rattle.planning.specs.Model.{value, litTrue, clauseTrue, satisfies, t
 ghost use Rattle.writer.specs.Literal.{litIn, clauseIn};
 ghost use Rattle.sheet.specs.Sheet.{tableIn};
 ghost use Rattle.shape.specs.Shape.{Indexed};
-ghost use Rattle.cursor.specs.Cursor.{Stands, Holds};
-ghost use Rattle.model.specs.Clauses.{clauseAt, RowTold};
+ghost use Rattle.cursor.specs.Cursor.{Holds};
+ghost use Rattle.model.specs.Clauses.{clauseAt};
 use cursor::Cursor;
 
 // Is variable v true?
@@ -51,7 +51,7 @@ fn has_true<'a>(values: &'a [u8], lits: &'a [u64]) -> bool
     false
 }
 
-// Is the clause at c satisfied? Its literals go through `lits`.
+// Is the clause at c satisfied? Its literals go through `lits`, whose contents afterwards are left free.
 fn is_satisfied<'a, 'b>(
     ws: &'a [u64],
     ix: &'a [u64],
@@ -66,42 +66,6 @@ fn is_satisfied<'a, 'b>(
     has_true(values, &lits[..k])
 }
 
-// Is every clause of the row of c, from c on? A row that is seen to be satisfied is not gone through.
-fn is_row_satisfied<'a, 'b>(
-    ws: &'a [u64],
-    ix: &'a [u64],
-    values: &'a [u8],
-    lits: &'b mut [u64],
-    c: Cursor,
-) -> bool
-    requires { ⌜ Indexed (tableIn (now ws)) (now ix) × Stands (tableIn (now ws)) c × (length (now lits) ≡ 136) ⌝ }
-    ensures { λ r. ⌜ RowTold (tableIn (now (ws .entry))) (value (truthsIn (now (values .entry)))) c r ⌝ }
-{
-    if c.i >= c.len {
-        return true;
-    }
-    if row::row_holds(ws, ix, values, c) {
-        return true;
-    }
-    let mut i = c.i;
-    while i < c.len {
-        let place = Cursor {
-            rule: c.rule,
-            node: c.node,
-            group: c.group,
-            x: c.x,
-            y: c.y,
-            i: i,
-            len: c.len,
-        };
-        if !is_satisfied(ws, ix, values, lits, place) {
-            return false;
-        }
-        i += 1;
-    }
-    true
-}
-
 // Is every clause? Row by row.
 pub fn is_model<'a>(ws: &'a [u64], ix: &'a [u64], values: &'a [u8]) -> bool
     requires { ⌜ Indexed (tableIn (now ws)) (now ix) ⌝ }
@@ -110,7 +74,7 @@ pub fn is_model<'a>(ws: &'a [u64], ix: &'a [u64], values: &'a [u8]) -> bool
     let mut lits = [0u64; 136];
     let mut c = cursor::seek(ws, ix, 0);
     while c.rule < 4 {
-        if !is_row_satisfied(ws, ix, values, &mut lits, c) {
+        if !row::is_row_satisfied(ws, ix, values, &mut lits, c) {
             return false;
         }
         c = c.past_row(ws, ix);

@@ -1,16 +1,17 @@
-// Rows of clauses that are satisfied whole, told by a few variables: a row holds up to 128 clauses, and most of them are satisfied by the
-// same literal. `ws` is the table's sheet and `ix` its index.
+// Is a row of clauses satisfied? A row holds up to 128 clauses, and most rows are satisfied whole by one literal: a few variables tell. `ws` is the table's sheet and `ix` its index.
 ghost use mathlib.Core.Path.{_≡_};
 ghost use mathlib.Core.Bool.{true};
 ghost use Prim.Native.Nat.{_+_, _<_};
+ghost use lib.ListN.{length};
 ghost use Rattle.lists.specs.List.{any, from};
-ghost use Rattle.planning.specs.Model.{value, truthsIn};
+ghost use Rattle.planning.specs.Model.{value, satisfies, truthsIn};
 ghost use Rattle.places.specs.ClausePlace.{tasksN};
 ghost use Rattle.sheet.specs.Sheet.{tableIn};
 ghost use Rattle.shape.specs.Shape.{node, Indexed, InNode};
-ghost use Rattle.cursor.specs.Cursor.{Holds};
-ghost use Rattle.model.specs.Clauses.{RowTrue};
+ghost use Rattle.cursor.specs.Cursor.{Stands, Holds};
+ghost use Rattle.model.specs.Clauses.{rowClauses, RowTrue};
 use super::is_on;
+use super::is_satisfied;
 use clause::lookup::fact_variable;
 use clause::lookup::method_variable;
 use clause::lookup::own_variable;
@@ -78,7 +79,7 @@ fn slot_row_holds<'a>(ws: &'a [u64], ix: &'a [u64], values: &'a [u8], c: Cursor)
 }
 
 // Is every clause of the row of c satisfied? A sufficient test only: `false` says nothing of the row.
-pub fn row_holds<'a>(ws: &'a [u64], ix: &'a [u64], values: &'a [u8], c: Cursor) -> bool
+fn row_holds<'a>(ws: &'a [u64], ix: &'a [u64], values: &'a [u8], c: Cursor) -> bool
     requires { ⌜ Indexed (tableIn (now ws)) (now ix) × Holds (tableIn (now ws)) c ⌝ }
     ensures { λ r. ⌜ (r ≡ true → RowTrue (tableIn (now (ws .entry))) (value (truthsIn (now (values .entry)))) c) ⌝ }
 {
@@ -88,4 +89,41 @@ pub fn row_holds<'a>(ws: &'a [u64], ix: &'a [u64], values: &'a [u8], c: Cursor) 
         3 => slot_row_holds(ws, ix, values, c),
         _ => false,
     }
+}
+
+// Is every clause of the row of c, from c on? A row that is seen to be satisfied is not gone through. The contents of `lits` afterwards are
+// left free.
+pub fn is_row_satisfied<'a, 'b>(
+    ws: &'a [u64],
+    ix: &'a [u64],
+    values: &'a [u8],
+    lits: &'b mut [u64],
+    c: Cursor,
+) -> bool
+    requires { ⌜ Indexed (tableIn (now ws)) (now ix) × Stands (tableIn (now ws)) c × (length (now lits) ≡ 136) ⌝ }
+    ensures { λ r. ⌜ r ≡ satisfies (value (truthsIn (now (values .entry)))) (rowClauses (tableIn (now (ws .entry))) c) ⌝ }
+{
+    if c.i >= c.len {
+        return true;
+    }
+    if row_holds(ws, ix, values, c) {
+        return true;
+    }
+    let mut i = c.i;
+    while i < c.len {
+        let place = Cursor {
+            rule: c.rule,
+            node: c.node,
+            group: c.group,
+            x: c.x,
+            y: c.y,
+            i: i,
+            len: c.len,
+        };
+        if !is_satisfied(ws, ix, values, lits, place) {
+            return false;
+        }
+        i += 1;
+    }
+    true
 }

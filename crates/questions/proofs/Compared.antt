@@ -1,12 +1,12 @@
 -- The lent tree beside the table's own: question 10, and what stands where it is met.
 -- By places, one after the other.
-use mathlib.Core.Path.{_≡_, refl, sym, ap, ap₂, _∙_, subst}
+use mathlib.Core.Path.{_≡_, refl, ap, ap₂, _∙_}
 use mathlib.Core.Bool.{Bool, true, false, _&&_}
-use mathlib.Core.List.{List, [], _∷_, _++_}
+use mathlib.Core.List.{List, [], _∷_}
 use Prim.Native.Nat.{ℕ, zero, suc, _+_, _-_, _*_, _≤_, _<_}
 use native.Mathlib.Omega.{arith}
 use lib.Dec.{eqb}
-use lib.ListN.{length, getD, take, drop, length-append, length-take, List·getD-append}
+use lib.ListN.{length, getD, take, drop, length-append, List·getD-append}
 use lib.Seq.{getD-take, length-take-le}
 use Rattle.lists.specs.List.{all, from, upTo}
 use Rattle.lists.specs.Written.{Wrote}
@@ -24,7 +24,6 @@ use Rattle.places.specs.Lookup.{noRecord}
 use Rattle.index.specs.Index.{indexOf}
 use Rattle.index.proofs.Blocks.{length-fives}
 use Rattle.index.proofs.Known.{set-length}
-use Rattle.shape.specs.Shape.{Indexed}
 use Rattle.tree.specs.Words.{recordWords, treeWords, met10}
 use Rattle.tree.specs.Visit.{Known}
 use Rattle.questions.specs.Parts.{Placed}

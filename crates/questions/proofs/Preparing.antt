@@ -1,27 +1,24 @@
 -- Questions 2 to 9: what the reader and the counts of the tree say of them.
 -- By the promises of the reader, and by what was counted.
-use mathlib.Core.Path.{_≡_, refl, sym, ap, ap₂, _∙_, subst}
-use mathlib.Core.Bool.{Bool, true, false, cond, _&&_}
+use mathlib.Core.Path.{_≡_, refl, sym, ap, ap₂, _∙_}
+use mathlib.Core.Bool.{Bool, true, false}
 use mathlib.Core.List.{List, [], _∷_}
-use mathlib.Core.Logic.{_⊎_, inl, inr}
 use Prim.Native.Nat.{ℕ, zero, suc, _+_, _*_, _≤_, _<_}
 use native.Mathlib.Nat.{mul-le-mul}
 use native.Mathlib.Omega.{arith}
-use lib.Dec.{leb}
 use lib.ListN.{length}
 use Rattle.lists.specs.Question.{firstUnmet}
-use Rattle.lists.proofs.Bool.{bool-cases, leb-sound, leb-in, leb-no}
+use Rattle.lists.proofs.Bool.{leb-sound, leb-in, leb-no}
 use Rattle.planning.specs.Table.{Table, Sound, Limits}
 use Rattle.planning.specs.Place.{rootPlace, nodes}
-use Rattle.planning.specs.Variable.{variables, nodeVars, slots}
+use Rattle.planning.specs.Variable.{variables, slots}
 use Rattle.planning.specs.Accepted.{Accepted}
-use Rattle.table.specs.Reading.{Reading, refused, passed, reading}
-use Rattle.table.specs.Layout.{tableFrom, namePartsFrom, Reads}
+use Rattle.table.specs.Layout.{tableFrom, Reads}
 use Rattle.table.specs.declared.Outcome.{Outcome}
 use Rattle.table.proofs.Promised.{promises}
 use Rattle.tree.specs.Visit.{Known, Counted}
 use Rattle.tree.specs.declared.Count.{Count}
-use Rattle.questions.specs.Questions.{met8, met9, Verdict, unmet, accepted, ifMet, afterReading, accepting, namesAfter, namesOf}
+use Rattle.questions.specs.Questions.{met8, met9, unmet, accepted, ifMet, afterReading, namesAfter}
 use Rattle.questions.specs.Parts.{Measured, IsPrepared}
 use Rattle.questions.specs.declared.Measure.{Measure}
 use Rattle.questions.specs.declared.Prepared.{Prepared}

@@ -62,7 +62,7 @@ module _ {A : Type 0} where
   abbrev pub asked : (enough : Bool) → (file : List ℕ) → (behind9 : Table → List (ℕ × Bool)) → (refuse : ℕ → A) → (succeed : Table → A) → A
   asked enough file behind9 refuse succeed = cond enough (byVerdict (accepting file) behind9 refuse succeed) (refuse 1)
 
--- What a call hands back: "that number alone", or its values in order
+-- What a call hands back: the number of the question alone, or its values in order
 pub data HandedBack : Type 0 where
   turnedDown : ℕ → HandedBack
   taken : List ℕ → HandedBack

@@ -1,21 +1,18 @@
 -- The loops of a node and of a slot, letter by letter.
 -- By cases on the letter.
-use mathlib.Core.Path.{_≡_, refl, sym, ap, _∙_}
-use mathlib.Core.Bool.{Bool, true, false, cond, _&&_}
-use mathlib.Core.List.{List, [], _∷_}
-use Prim.Native.Nat.{ℕ, zero, suc, _+_, _-_, _*_, _≤_, _<_}
+use mathlib.Core.Path.{_≡_, refl, sym, _∙_}
+use mathlib.Core.List.{List}
+use Prim.Native.Nat.{ℕ, zero, suc, _+_, _-_, _≤_, _<_}
 use native.Mathlib.Omega.{arith}
-use lib.Dec.{eqb, ltb}
-use lib.ListN.{length, getD}
+use lib.Dec.{ltb}
+use lib.ListN.{getD}
 use borrow.Author.Tests.{lt-ltb, le-ltb}
 use Rattle.lists.proofs.Bool.{and-off}
-use Rattle.lists.specs.List.{Every}
 use Rattle.planning.specs.Table.{Table}
-use Rattle.planning.specs.Accepted.{Accepted}
 use Rattle.planning.specs.Record.{records}
 use Rattle.planning.proofs.Record.{records-rising}
 use Rattle.places.specs.Flat.{Node}
-use Rattle.places.specs.ClausePlace.{noGroup, nodeGroups, slotAt, groupAt, nodesIn, groupsIn, rowLen, Group}
+use Rattle.places.specs.ClausePlace.{noGroup, nodeGroups, groupAt, nodesIn, groupsIn, rowLen}
 use Rattle.places.proofs.Small.{Short, short, short-row, records-children}
 use Rattle.index.specs.Index.{source}
 use Rattle.shape.specs.Shape.{Indexed, node, InNode, InSlot, InGroup}

@@ -1,22 +1,21 @@
 -- What is looked up of a node, and how large it is.
 -- By the laws of the index and of the sizes of nodes.
-use mathlib.Core.Path.{_≡_, refl, sym, ap, _∙_, subst}
+use mathlib.Core.Path.{_≡_, sym, ap, _∙_, subst}
 use mathlib.Core.Bool.{Bool, true, false, cond}
-use mathlib.Core.List.{List, [], _∷_, _++_}
-use Prim.Native.Nat.{ℕ, zero, suc, _+_, _-_, _*_, _≤_, _<_}
+use mathlib.Core.List.{List, [], _∷_}
+use Prim.Native.Nat.{ℕ, suc, _+_, _-_, _≤_, _<_}
 use native.Mathlib.Omega.{arith}
-use lib.Dec.{ltb}
 use lib.ListN.{length, getD, take, drop, take-append-drop}
-use Rattle.lists.specs.List.{Every, has, Rising, upTo}
+use Rattle.lists.specs.List.{Every, has, Rising}
 use Rattle.lists.proofs.Member.{in-getD}
 use Rattle.lists.proofs.Rising.{rising-range, rising-filter}
-use Rattle.planning.specs.Table.{Table, jobOf, bodyOf}
+use Rattle.planning.specs.Table.{Table, jobOf}
 use Rattle.planning.specs.Place.{methodsOf}
 use Rattle.planning.specs.Record.{Record, records}
 use Rattle.planning.specs.Accepted.{Accepted}
 use Rattle.planning.proofs.Record.{LabelIn, records-rising}
-use Rattle.places.specs.Flat.{Node, Child, inner, own, ownAll, jobsAt, methodsAt}
-use Rattle.places.specs.ClausePlace.{childAt, width, tasksN, methodAt, methodVar, namedAt, nodeAt}
+use Rattle.places.specs.Flat.{Node, inner, ownAll, methodsAt}
+use Rattle.places.specs.ClausePlace.{childAt, width, tasksN, methodAt, methodVar}
 use Rattle.places.specs.Lookup.{recordAt, firstVar, noRecord, slotsIn}
 use Rattle.places.proofs.Literals.{every-at}
 use Rattle.places.proofs.Lookup.{node-at, nodes-length, slots-length}
@@ -24,7 +23,7 @@ use Rattle.places.proofs.Records.{vars-records, ownAll-append}
 use Rattle.places.proofs.Small.{Sizes, sizes-at, records-children}
 use Rattle.index.specs.Index.{source, indexOf, nodesIn, slotsIn as slotsWord, nodeWordIn, meaningIn, Few, ChildAt}
 use Rattle.index.proofs.Known.{nodes-count, first-in, step-count-in, job-count-in, method-count-in, child-count-in, child-in}
-use Rattle.index.proofs.Looked.{step-meaning, job-meaning, method-meaning, child-at}
+use Rattle.index.proofs.Looked.{method-meaning, child-at}
 use Rattle.shape.specs.Shape.{Indexed, node, InNode}
 
 rising-at : (n x : ℕ) (xs : List ℕ) → Rising 0 n xs → x < length xs → getD xs x 0 < n

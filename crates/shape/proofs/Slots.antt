@@ -1,14 +1,13 @@
 -- What is looked up of a slot, and the facts that a step needs, sets and clears.
 -- By the laws of the index, and by the promises of sets.
-use mathlib.Core.Path.{_≡_, refl, sym, ap, _∙_, subst}
-use mathlib.Core.Bool.{Bool, true, false, not, _&&_}
-use mathlib.Core.List.{List, [], _∷_, _++_}
+use mathlib.Core.Path.{_≡_, sym, ap, _∙_}
+use mathlib.Core.Bool.{false}
+use mathlib.Core.List.{List, [], _∷_}
 use Prim.Native.Nat.{ℕ, zero, suc, _+_, _-_, _*_, _%_, _^_, _≤_, _<_}
 use native.Mathlib.Nat.{mod-eq-of-lt}
 use native.Mathlib.Omega.{arith}
 use lib.ListN.{length, getD}
-use Rattle.lists.specs.List.{Every, has, Rising, filter, upTo, number}
-use Rattle.lists.proofs.Bool.{and-off}
+use Rattle.lists.specs.List.{filter, upTo, number}
 use Rattle.lists.proofs.Every.{every-getD}
 use Rattle.lists.proofs.Member.{filter-same, has-not}
 use Rattle.lists.proofs.Number.{number-length}
@@ -16,14 +15,14 @@ use Rattle.lists.proofs.Place.{filter-enough}
 use Rattle.lists.proofs.Rising.{rising-range}
 use Rattle.bitset.specs.Set.{contains, members, difference}
 use Rattle.bitset.proofs.Promises.{promises}
-use Rattle.planning.specs.Table.{Table, Step, StepIn, noStep, stepOf}
-use Rattle.planning.specs.Clause.{factsThat, drops}
+use Rattle.planning.specs.Table.{Table, StepIn, noStep, stepOf}
+use Rattle.planning.specs.Clause.{drops}
 use Rattle.planning.specs.Accepted.{Accepted}
 use Rattle.planning.proofs.Sizes.Count.{facts-rising}
 use Rattle.places.specs.ClausePlace.{slotAt, effectFacts}
-use Rattle.index.specs.Index.{source, indexOf, slotNodeIn, meaningIn, SlotAt}
+use Rattle.index.specs.Index.{source, slotNodeIn, meaningIn, SlotAt}
 use Rattle.index.proofs.Looked.{slot-in, step-meaning}
-use Rattle.shape.specs.Shape.{Indexed, node, InNode, InSlot}
+use Rattle.shape.specs.Shape.{node, InNode, InSlot}
 use Rattle.shape.proofs.Nodes.{few-slots, step-small, few-steps}
 
 getD-number : (b x : ℕ) (xs : List ℕ) → x < length xs → getD (number b xs) x (0, 0) ≡ (b + x, getD xs x 0)

@@ -1,7 +1,7 @@
 -- The lines of an answer file: which kinds there are, and what each says. 99, 115 and 118 are c, s and v; 32 is a space.
 -- Assumes nothing.
 use mathlib.Core.Path.{_≡_}
-use mathlib.Core.Bool.{Bool, cond}
+use mathlib.Core.Bool.{cond}
 use mathlib.Core.List.{List, [], _∷_}
 use mathlib.Core.Logic.{_⊎_, _↔_}
 use mathlib.Core.Option.{Option, none, some}

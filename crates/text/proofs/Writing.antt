@@ -1,34 +1,31 @@
 -- Lines written one behind the other: the loop's invariant, and one law for each way that it goes on.
 -- By the definition of the lines that fit, and by the laws of writes.
-use mathlib.Core.Path.{_≡_, refl, sym, ap, ap₂, _∙_, subst}
+use mathlib.Core.Path.{_≡_, refl, sym, ap, _∙_, subst}
 use mathlib.Core.Bool.{Bool, true, false, cond}
 use mathlib.Core.List.{List, [], _∷_, _++_, map, append-assoc, append-nil}
 use mathlib.Core.Logic.{_⊎_, inl, inr}
-use Prim.Native.Nat.{ℕ, zero, suc, _+_, _-_, _≤_, _<_}
+use Prim.Native.Nat.{ℕ, suc, _+_, _-_, _≤_, _<_}
 use native.Mathlib.Omega.{arith}
 use lib.Dec.{leb}
 use lib.ListN.{length, drop, length-append}
 use Rattle.lists.specs.List.{concat, concatMap}
 use Rattle.lists.specs.Written.{Wrote}
-use Rattle.lists.proofs.Bool.{bool-cases, clash, leb-sound, leb-in, leb-no}
+use Rattle.lists.proofs.Bool.{leb-in, leb-no}
 use Rattle.lists.proofs.Every.{concat-append}
 use Rattle.lists.proofs.Order.{le-or-lt}
 use Rattle.lists.proofs.Written.{wrote-none, wrote-append, wrote-same, wrote-length}
 use Rattle.planning.specs.Table.{Table}
 use Rattle.planning.specs.Clause.{Clause}
-use Rattle.planning.specs.Text.{litText, clauseLine, fitting, lines, written, nextLine}
-use Rattle.places.specs.Nest.{Pos, at, left, positions}
-use Rattle.places.specs.ClausePlace.{literals, placeAt, shape}
-use Rattle.places.specs.Cursor.{after, linesLeft, placesLeft, Seeking}
+use Rattle.planning.specs.Text.{litText, clauseLine, fitting, lines}
+use Rattle.places.specs.Nest.{Pos}
+use Rattle.places.specs.ClausePlace.{literals, placeAt}
 use Rattle.places.proofs.Next.{text-left}
 use Rattle.index.specs.Index.{source}
-use Rattle.cursor.specs.Cursor.{posOf, ofPos, leftIn, answerOf, nextOf, In, Found}
+use Rattle.cursor.specs.Cursor.{posOf, nextOf, In, Found}
 use Rattle.cursor.proofs.Handing.{handed-clause, handed-end}
 use Rattle.cursor.specs.declared.Cursor.{Cursor}
-use Rattle.cursor.specs.declared.Next.{Next}
 use Rattle.cursor.specs.declared.Next.the-variants.{Clause as NextClause, End}
 use Rattle.text.specs.Lines.{lineAt, linesFrom, ifFits, Put}
-use Rattle.text.specs.declared.Lines.{Lines}
 
 -- What the cursor hands out --------------------------------------------------------------------------------------------------
 abbrev linesAt : Table → List Pos → List (List ℕ)

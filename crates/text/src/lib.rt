@@ -19,7 +19,8 @@ pub struct Lines {
     pub next: usize,
 }
 
-// The line of the clause at c, where it fits; if not, nothing is written and `at` comes back. Its literals go through `lits`.
+// The line of the clause at c, where it fits; if not, nothing is written and `at` comes back. Its literals go
+// through `lits`; what that holds afterwards is left free.
 fn put_line<'a, 'b, 'c>(
     ws: &'a [u64],
     ix: &'a [u64],

@@ -2,12 +2,12 @@
 -- By the laws of the methods of some jobs.
 use mathlib.Core.Path.{_≡_, refl, sym, ap, _∙_}
 use mathlib.Core.Bool.{Bool, true, false, cond, not, _&&_}
-use mathlib.Core.List.{List, [], _∷_, _++_, append-nil}
+use mathlib.Core.List.{List, [], _∷_, _++_}
 use mathlib.Core.Logic.{_⊎_, inl, inr}
 use Prim.Native.Nat.{ℕ, zero, suc, _+_, _-_, _*_, _%_, _^_, _≤_, _<_, max}
 use native.Mathlib.Nat.{mod-eq-of-lt}
 use native.Mathlib.Omega.{arith}
-use lib.Dec.{eqb, ltb, lit<}
+use lib.Dec.{eqb, ltb}
 use lib.ListN.{length, getD, getElem?}
 use borrow.Author.Tests.{lt-ltb, le-ltb}
 use Rattle.lists.specs.List.{all, from, upTo}
@@ -17,8 +17,8 @@ use Rattle.lists.proofs.Member.{all-out, all-append}
 use Rattle.lists.proofs.Number.{upTo-in}
 use Rattle.lists.proofs.Order.{le-or-lt, ne-lt}
 use Rattle.lists.proofs.Place.{from-add}
-use Rattle.lists.proofs.Written.{wrote-append, wrote-same, wrote-none}
-use Rattle.bitset.specs.Set.{contains, members, inserted, setOf}
+use Rattle.lists.proofs.Written.{wrote-append, wrote-same}
+use Rattle.bitset.specs.Set.{contains, setOf}
 use Rattle.bitset.proofs.Promises.{promises}
 use Rattle.planning.specs.Table.{Table, jobOf, bodyOf}
 use Rattle.planning.specs.Place.{Label as PlanningLabel, methodsOf, longest, oneIfAny, childCount, childLabel}

@@ -2,27 +2,27 @@
 -- By the laws of filters over numbers.
 use mathlib.Core.Path.{_≡_, refl, sym, ap, _∙_}
 use mathlib.Core.Bool.{Bool, true, false, cond, _&&_, _||_}
-use mathlib.Core.List.{List, [], _∷_, _++_, append-nil}
+use mathlib.Core.List.{List, [], _∷_, _++_}
 use mathlib.Core.Logic.{_⊎_, inl, inr}
 use mathlib.Core.Option.{Option, none, some}
-use Prim.Native.Nat.{ℕ, zero, suc, _+_, _*_, _/_, _≤_, _<_, max}
+use Prim.Native.Nat.{ℕ, zero, suc, _+_, _/_, _≤_, _<_, max}
 use native.Mathlib.Omega.{arith}
-use lib.Dec.{eqb, ltb}
+use lib.Dec.{eqb}
 use lib.ListN.{length, getD, getElem?, length-append}
 use borrow.Author.Tests.{lt-ltb}
 use Rattle.lists.specs.List.{consIf, filter, any, from, upTo, has, Every, Rising}
 use Rattle.lists.proofs.Bool.{bool-cases, clash, false-of, or-off, and-on, and-off, eqb-sound, eqb-other, eqb-same}
 use Rattle.lists.proofs.Every.{every-getD}
-use Rattle.lists.proofs.Member.{any-out, any-append, filter-same, in-filter-out, has-not}
-use Rattle.lists.proofs.Number.{upTo-range, length-from}
+use Rattle.lists.proofs.Member.{any-out, any-append, filter-same, has-not}
+use Rattle.lists.proofs.Number.{length-from}
 use Rattle.lists.proofs.Place.{from-add, filter-append, filter-enough, one-word}
-use Rattle.lists.proofs.Rising.{rising-range, rising-filter}
-use Rattle.bitset.specs.Set.{contains, membersBelow, members, inserted}
+use Rattle.lists.proofs.Rising.{rising-range}
+use Rattle.bitset.specs.Set.{contains, inserted}
 use Rattle.bitset.proofs.Promises.{promises}
 use Rattle.planning.proofs.Task.{same-sound}
-use Rattle.planning.specs.Table.{Task, step, job, same, Table, jobOf, bodyOf, TaskIn, Method, MethodIn, noMethod}
+use Rattle.planning.specs.Table.{Task, step, job, Table, jobOf, bodyOf, TaskIn, MethodIn, noMethod}
 use Rattle.planning.specs.Place.{Label as PlanningLabel, methodsOf, longest, is, named, childLabel}
-use Rattle.tree.specs.Visit.{membersIn, labelIn, Inside, Known, withTask}
+use Rattle.tree.specs.Visit.{membersIn, labelIn, Known, withTask}
 use Rattle.tree.specs.declared.Label.{Label}
 
 -- the methods of these jobs among the first m

@@ -1,29 +1,29 @@
 -- Visits one after the other: the laws that the returns of the visits cite.
 -- By the laws of writes, and by the cases of a place.
-use mathlib.Core.Path.{_≡_, refl, sym, ap, ap₂, _∙_}
-use mathlib.Core.Bool.{Bool, true, false, _&&_}
+use mathlib.Core.Path.{_≡_, refl, sym, ap, _∙_}
+use mathlib.Core.Bool.{true, false, _&&_}
 use mathlib.Core.List.{List, [], _∷_, _++_, map, append-nil}
 use mathlib.Core.Logic.{_⊎_, inl, inr}
-use Prim.Native.Nat.{ℕ, zero, suc, _+_, _-_, _*_, _≤_, _<_, min}
+use Prim.Native.Nat.{ℕ, zero, suc, _+_, _-_, _*_, _≤_, _<_}
 use native.Mathlib.Numerals.{add-one, sub-one}
 use native.Mathlib.Omega.{arith}
 use lib.Dec.{ltb}
 use borrow.Author.Tests.{lt-ltb, le-ltb}
-use lib.ListN.{length, length-append, length-map}
-use Rattle.lists.specs.List.{concatMap, from, upTo}
+use lib.ListN.{length, length-map}
+use Rattle.lists.specs.List.{from}
 use Rattle.lists.specs.Written.{Wrote}
 use Rattle.lists.proofs.Bool.{clash, and-off}
 use Rattle.lists.proofs.Every.{concatMap-append}
 use Rattle.lists.proofs.Number.{length-from}
 use Rattle.lists.proofs.Order.{le-or-lt}
 use Rattle.lists.proofs.Written.{wrote-none, wrote-append, wrote-same, wrote-length}
-use Rattle.planning.specs.Table.{Table, step, job}
-use Rattle.planning.specs.Place.{Label as PlanningLabel, Place, slot, inner, Places, stop, also, methodsOf, childCount, childLabel, innerIf, row, place, rootPlace, nodes, nodesOf, count}
+use Rattle.planning.specs.Table.{Table, step}
+use Rattle.planning.specs.Place.{Label as PlanningLabel, Place, slot, inner, Places, also, methodsOf, childCount, childLabel, row, place, nodes, count}
 use Rattle.planning.specs.Record.{Record, recordsAt, recordsBelow}
-use Rattle.planning.specs.Variable.{ownVars, partVars, partsVars, slotVars, slotsVars}
+use Rattle.planning.specs.Variable.{ownVars, partsVars}
 use Rattle.planning.proofs.Task.{length-tasks}
 use Rattle.tree.specs.Words.{recordWords, treeWords}
-use Rattle.tree.specs.Visit.{membersIn, labelIn, someIn, slotsOf, slotsOfEach, Small, Visited, VisitedPart, VisitedParts, childrenFrom, Put}
+use Rattle.tree.specs.Visit.{membersIn, labelIn, someIn, Small, Visited, VisitedPart, VisitedParts, childrenFrom, Put}
 use Rattle.tree.specs.declared.Label.{Label}
 use Rattle.tree.specs.declared.Count.{Count}
 

@@ -1,25 +1,22 @@
 -- The whole tree: what a visit from the root on counts and writes are planning's counts and records.
 -- By the promises of sets, and by recursion on the place.
 use mathlib.Core.Path.{_≡_, refl, sym, ap, _∙_}
-use mathlib.Core.Bool.{Bool, true, false, not}
-use mathlib.Core.List.{List, [], _∷_, _++_}
-use mathlib.Core.Logic.{_⊎_, inl, inr}
-use Prim.Native.Nat.{ℕ, zero, suc, _+_, _-_, _*_, _^_, _≤_, _<_}
+use mathlib.Core.Bool.{true, false}
+use mathlib.Core.List.{List, [], _∷_}
+use Prim.Native.Nat.{ℕ, _+_, _-_, _*_, _^_, _≤_, _<_}
 use native.Mathlib.Omega.{arith}
-use lib.Dec.{eqb}
 use lib.ListN.{length, getD, length-append}
-use Rattle.lists.specs.List.{Rising}
 use Rattle.lists.specs.Written.{Wrote}
 use Rattle.lists.proofs.Rising.{rising-filter}
 use Rattle.lists.proofs.Place.{one-word}
 use Rattle.bitset.specs.Set.{members, inserted, setOf}
 use Rattle.bitset.proofs.Promises.{promises}
-use Rattle.planning.specs.Table.{Table, step, job}
-use Rattle.planning.specs.Place.{Label as PlanningLabel, Place, slot, inner, Places, stop, also, named, childLabel, rootLabel, rootPlace, nodes}
-use Rattle.planning.specs.Record.{records, recordsAt}
-use Rattle.planning.specs.Variable.{ownVars, partVars, slotVars, slotsVars, nodeVars, slots}
+use Rattle.planning.specs.Table.{Table}
+use Rattle.planning.specs.Place.{Label as PlanningLabel, Place, slot, inner, Places, stop, also, childLabel, rootLabel, rootPlace, nodes}
+use Rattle.planning.specs.Record.{records}
+use Rattle.planning.specs.Variable.{ownVars, partVars, slotVars, slotsVars, slots}
 use Rattle.tree.specs.Words.{treeWords}
-use Rattle.tree.specs.Visit.{membersIn, labelIn, someIn, Inside, Known, slotsOf, slotsOfEach, Small, Visited, VisitedPart, VisitedTree, noCount, Counted}
+use Rattle.tree.specs.Visit.{membersIn, labelIn, someIn, Inside, Known, slotsOf, slotsOfEach, Small, VisitedPart, VisitedTree, noCount, Counted}
 use Rattle.tree.specs.declared.Label.{Label}
 use Rattle.tree.specs.declared.Count.{Count}
 

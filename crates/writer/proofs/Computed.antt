@@ -1,8 +1,7 @@
 -- Small lines computed.
 -- By computation.
 use mathlib.Core.Path.{_≡_, refl}
-use mathlib.Core.List.{List, [], _∷_}
-use Prim.Native.Nat.{ℕ}
+use mathlib.Core.List.{[], _∷_}
 use Rattle.lists.specs.Text.{bytes}
 use Rattle.planning.specs.Text.{clauseLine, headerLine}
 use Rattle.writer.specs.Literal.{clauseIn}

@@ -64,7 +64,7 @@ fn put_pair(out: &mut [u8], at: usize, n: u64) -> usize
     put_byte(out, a, (48 + n % 10) as u8)
 }
 
-// A variable has at most four digits, so it takes no second call.
+// A variable has at most four digits, so it goes no deeper.
 pub fn put_decimal(out: &mut [u8], at: usize, n: u64) -> usize
     requires { ⌜ at + length (decimal n) ≤ length (now out) ⌝ }
     ensures { λ r. ⌜ Wrote (now (out .entry)) at (decimal n) (now (out .exit)) r ⌝ }

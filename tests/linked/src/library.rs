@@ -57,7 +57,7 @@ impl<const N: usize> Called<N> {
     fn of(question: usize, values: [usize; N]) -> Called<N> {
         match question {
             0 => Called { outcome: Ok(values), kept: true },
-            _ => Called { outcome: Err(Refused(question as u32)), kept: values == [LENT; N] },
+            _ => Called { outcome: Err(Refused(u32::try_from(question).unwrap_or(u32::MAX))), kept: values == [LENT; N] },
         }
     }
 }

@@ -10,10 +10,9 @@ use Rattle.cursor.proofs.Counts.{Summing, summing-none, summing-more, s
 use Rattle.sheet.specs.Sheet.{tableIn}
 use Rattle.index.specs.Index.{source}
 use mathlib.Core.Path.{ap, _∙_}
-use Prim.Native.Nat.{ℕ, _-_}
-use Rattle.places.specs.Total.{sumTo, countAt}
+use Prim.Native.Nat.{_-_}
+use Rattle.places.specs.Total.{sumTo}
 use Rattle.places.specs.ClausePlace.{rowLen, groupAt}
-use Rattle.cursor.specs.Cursor.{columnsCount}
 
 abbrev Inv-loop : tie.InvT-loop
 Inv-loop ws ix r n g e k₀ x₀ k x = Summing (λ z. sumTo (λ y. rowLen (source (tableIn ws)) r n g z y) ((groupAt (source (tableIn ws)) r n g) .ys)) 1024 e x k

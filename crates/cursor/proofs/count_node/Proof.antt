@@ -10,9 +10,8 @@ use Rattle.cursor.proofs.Counts.{Summing, summing-none, summing-more, s
 use Rattle.sheet.specs.Sheet.{tableIn}
 use Rattle.index.specs.Index.{source}
 use mathlib.Core.Path.{ap, _∙_}
-use Prim.Native.Nat.{ℕ, _-_}
-use Rattle.places.specs.Total.{sumTo, countAt}
-use Rattle.places.specs.ClausePlace.{rowLen, groupAt}
+use Prim.Native.Nat.{_-_}
+use Rattle.places.specs.Total.{sumTo}
 use Rattle.cursor.specs.Cursor.{columnsCount}
 
 abbrev Inv-loop : tie.InvT-loop

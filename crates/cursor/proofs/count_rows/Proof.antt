@@ -10,10 +10,9 @@ use Rattle.cursor.proofs.Counts.{Summing, summing-none, summing-more, s
 use Rattle.sheet.specs.Sheet.{tableIn}
 use Rattle.index.specs.Index.{source}
 use mathlib.Core.Path.{ap, _∙_}
-use Prim.Native.Nat.{ℕ, _-_}
-use Rattle.places.specs.Total.{sumTo, countAt}
-use Rattle.places.specs.ClausePlace.{rowLen, groupAt}
-use Rattle.cursor.specs.Cursor.{columnsCount}
+use Prim.Native.Nat.{_-_}
+use Rattle.places.specs.Total.{sumTo}
+use Rattle.places.specs.ClausePlace.{rowLen}
 
 abbrev Inv-loop : tie.InvT-loop
 Inv-loop ws ix r n g x e k₀ y₀ k y = Summing (λ z. rowLen (source (tableIn ws)) r n g x z) 128 e y k

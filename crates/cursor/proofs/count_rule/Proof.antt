@@ -10,10 +10,8 @@ use Rattle.cursor.proofs.Counts.{Summing, summing-none, summing-more, s
 use Rattle.sheet.specs.Sheet.{tableIn}
 use Rattle.index.specs.Index.{source}
 use mathlib.Core.Path.{ap, _∙_}
-use Prim.Native.Nat.{ℕ, _-_}
+use Prim.Native.Nat.{_-_}
 use Rattle.places.specs.Total.{sumTo, countAt}
-use Rattle.places.specs.ClausePlace.{rowLen, groupAt}
-use Rattle.cursor.specs.Cursor.{columnsCount}
 
 abbrev Inv-loop : tie.InvT-loop
 Inv-loop ws ix r e k₀ n₀ k n = Summing (countAt (source (tableIn ws)) r) 917504 e n k

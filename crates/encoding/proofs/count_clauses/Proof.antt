@@ -6,7 +6,6 @@ use Rattle.encoding.proofs.count_clauses.Lts as lts
 use Rattle.cursor.proofs.count_all.Reads as count-all-reads
 use Rattle.indexing.proofs.fill.Reads as fill-reads
 use Rattle.tree.proofs.build.Reads as build-reads
-use native.Mathlib.Omega.{arith}
 use Rattle.sheet.specs.Sheet.{tableIn}
 use Rattle.questions.proofs.Compared.{known-of, tree-front}
 use Rattle.encoding.proofs.Counted.{index-front, clauses-are}

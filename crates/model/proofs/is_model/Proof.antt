@@ -31,7 +31,7 @@ is-row-satisfied-requires : tie.Need-is-row-satisfied-requires Inv-loop μ-loop
 is-row-satisfied-requires c κs = (c .before .before .before .before .before .before .before .before .pre, stands-of (c .before .before .before .loop .inv .0 .inside) (c .before .if1 .taken), c .before .before .before .loop .inv .1)
 
 returns : tie.Need-returns Inv-loop μ-loop
-returns c = checking-off (c .before .before .before .before .before .before .loop .inv .0) (c .before .before .is-row-satisfied .ensures) (said-no refl (c .if2 .taken))
+returns c = checking-off (c .before .before .before .before .before .before .loop .inv .0) (stands-of (c .before .before .before .before .before .before .loop .inv .0 .inside) (c .before .before .before .before .if1 .taken)) (c .before .before .is-row-satisfied .ensures) (said-no refl (c .if2 .taken))
 
 past-row-requires : tie.Need-past-row-requires Inv-loop μ-loop
 past-row-requires c κs = (c .before .before .before .before .before .before .before .before .before .before .before .pre, stands-of (c .before .before .before .before .before .before .loop .inv .0 .inside) (c .before .before .before .before .if1 .taken))
@@ -40,7 +40,7 @@ loop-less : tie.Need-loop-less Inv-loop μ-loop
 loop-less c = c .past-row .ensures .less
 
 loop-again : tie.Need-loop-again Inv-loop μ-loop
-loop-again c = (checking-row (c .before .before .before .before .before .before .before .loop .inv .0) (c .before .before .before .is-row-satisfied .ensures) (said-yes refl (c .before .if2 .left)) (c .past-row .ensures), c .before .before .before .is-row-satisfied .kept .1 .1 .1 .0 ∙ c .before .before .before .before .before .before .before .loop .inv .1)
+loop-again c = (checking-row (c .before .before .before .before .before .before .before .loop .inv .0) (stands-of (c .before .before .before .before .before .before .before .loop .inv .0 .inside) (c .before .before .before .before .before .if1 .taken)) (c .before .before .before .is-row-satisfied .ensures) (said-yes refl (c .before .if2 .left)) (c .past-row .ensures), c .before .before .before .is-row-satisfied .kept .1 .1 .1 .0 ∙ c .before .before .before .before .before .before .before .loop .inv .1)
 
 returns-2 : tie.Need-returns-2 Inv-loop μ-loop
 returns-2 c = checking-end (c .before .before .loop .inv .0) (c .if1 .left)

@@ -1,4 +1,3 @@
-use borrow.Author.Needs.{needs}
 use Rattle.shape.proofs.child.Statement.{statement}
 use Rattle.shape.proofs.child.Tie as tie
 use Rattle.shape.proofs.child.Reads as reads

@@ -1,4 +1,3 @@
-use borrow.Author.Needs.{needs}
 use Rattle.shape.proofs.first.Statement.{statement}
 use Rattle.shape.proofs.first.Tie as tie
 use Rattle.shape.proofs.first.Reads as reads

@@ -1,4 +1,3 @@
-use borrow.Author.Needs.{needs}
 use Rattle.shape.proofs.groups_in.Statement.{statement}
 use Rattle.shape.proofs.groups_in.Tie as tie
 use Rattle.shape.proofs.groups_in.Reads as reads

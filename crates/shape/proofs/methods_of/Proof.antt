@@ -1,4 +1,3 @@
-use borrow.Author.Needs.{needs}
 use Rattle.shape.proofs.methods_of.Statement.{statement}
 use Rattle.shape.proofs.methods_of.Tie as tie
 use Rattle.shape.proofs.methods_of.Reads as reads

@@ -1,4 +1,3 @@
-use borrow.Author.Needs.{needs}
 use Rattle.shape.proofs.slot_len.Statement.{statement}
 use Rattle.shape.proofs.slot_len.Tie as tie
 use Rattle.shape.proofs.slot_len.Reads as reads

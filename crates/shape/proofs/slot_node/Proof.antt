@@ -1,4 +1,3 @@
-use borrow.Author.Needs.{needs}
 use Rattle.shape.proofs.slot_node.Statement.{statement}
 use Rattle.shape.proofs.slot_node.Tie as tie
 use Rattle.shape.proofs.slot_node.Reads as reads

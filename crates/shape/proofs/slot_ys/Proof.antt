@@ -1,4 +1,3 @@
-use borrow.Author.Needs.{needs}
 use Rattle.shape.proofs.slot_ys.Statement.{statement}
 use Rattle.shape.proofs.slot_ys.Tie as tie
 use Rattle.shape.proofs.slot_ys.Reads as reads

@@ -1,4 +1,3 @@
-use borrow.Author.Needs.{needs}
 use Rattle.shape.proofs.steps_of.Statement.{statement}
 use Rattle.shape.proofs.steps_of.Tie as tie
 use Rattle.shape.proofs.steps_of.Reads as reads

@@ -1,4 +1,3 @@
-use borrow.Author.Needs.{needs}
 use Rattle.shape.proofs.xs_in.Statement.{statement}
 use Rattle.shape.proofs.xs_in.Tie as tie
 use Rattle.shape.proofs.xs_in.Reads as reads

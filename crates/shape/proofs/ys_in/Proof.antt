@@ -1,11 +1,10 @@
-use borrow.Author.Needs.{needs}
 use Rattle.shape.proofs.ys_in.Statement.{statement}
 use Rattle.shape.proofs.ys_in.Tie as tie
 use Rattle.shape.proofs.ys_in.Reads as reads
 use Rattle.shape.proofs.ys_in.Lts as lts
 use Rattle.shape.proofs.node_ys.Reads as node-ys-reads
 use Rattle.shape.proofs.slot_ys.Reads as slot-ys-reads
-use Rattle.shape.proofs.Groups.{single-rule, sizes-of, node-there, node-letter, slot-there, slot-letter, known-most}
+use Rattle.shape.proofs.Groups.{single-rule, sizes-of, node-there, node-letter, slot-letter, known-most}
 use Rattle.sheet.specs.Sheet.{tableIn}
 
 -- src/lib.rt:288:9

@@ -1,4 +1,3 @@
-use borrow.Author.Needs.{needs}
 use Rattle.tree.proofs.has_some.Statement.{statement}
 use Rattle.tree.proofs.has_some.Tie as tie
 use Rattle.tree.proofs.has_some.Reads as reads

@@ -1,4 +1,3 @@
-use borrow.Author.Needs.{needs}
 use Rattle.tree.proofs.inherited.Statement.{statement}
 use Rattle.tree.proofs.inherited.Tie as tie
 use Rattle.tree.proofs.inherited.Reads as reads

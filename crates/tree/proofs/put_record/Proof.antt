@@ -5,7 +5,6 @@ use Rattle.tree.proofs.put_record.Reads as reads
 use Rattle.tree.proofs.put_record.Lts as lts
 use Rattle.tree.proofs.put_word.Reads as put-word-reads
 use Rattle.tree.proofs.Loops.{put-none, put-five}
-use native.Mathlib.Omega.{arith}
 
 -- src/lib.rt:213:13
 mul-k : tie.Need-mul-k

@@ -101,37 +101,11 @@ fn grouped(number: usize) -> String {
 // What is measured
 
 fn whole_formulas(inputs: &[Input]) {
-    let columns = [
-        "table",
-        "variables",
-        "clauses",
-        "bytes",
-        "one text call",
-        "direct Rust",
-        "ratio",
-        "second planner",
-        "ratio",
-        "copying the bytes",
-        "ratio",
-    ];
-    title("Whole formula", &columns);
+    let columns = "table, variables, clauses, bytes, one text call, direct Rust, ratio, second planner, ratio, copying the bytes, ratio";
+    title("Whole formula", &columns.split(", ").collect::<Vec<&str>>());
     for input in inputs {
-        let tree = input.tree();
         let expected = whole(&formula(&input.file).expect("accepted")).into_bytes();
-        let mut text = vec![0; LARGE_TEXT];
-        let mut own = Vec::with_capacity(LARGE_TEXT);
-        let mut copy = vec![0; LARGE_TEXT];
-        assert_eq!(library::write_text(&input.file, &tree, 0, &mut text).outcome.map(|[used, _]| used), Ok(expected.len()));
-        assert_eq!(text[..expected.len()], expected);
-        direct::write_text(&input.file, 0, LARGE_TEXT, &mut own).expect("accepted");
-        assert_eq!(own, expected);
-        let mut contenders: [Work; 4] = [
-            Box::new(|| _ = black_box(library::write_text(black_box(&input.file), &tree, 0, &mut text))),
-            Box::new(|| _ = black_box(direct::write_text(black_box(&input.file), 0, LARGE_TEXT, &mut own))),
-            Box::new(|| _ = black_box(whole(&formula(black_box(&input.file)).expect("accepted")))),
-            Box::new(|| black_box(&mut copy)[..expected.len()].copy_from_slice(black_box(&expected))),
-        ];
-        let [ours, rust, planner, copied] = &in_turns(&mut contenders)[..] else { unreachable!() };
+        let [ours, rust, planner, copied] = &whole_formula(input, &expected)[..] else { unreachable!() };
         let [_, variables, clauses] = input.counts();
         row(&[
             input.name.clone(),
@@ -147,6 +121,24 @@ fn whole_formulas(inputs: &[Input]) {
             ratio(ours, copied),
         ]);
     }
+}
+
+fn whole_formula(input: &Input, expected: &[u8]) -> Vec<Times> {
+    let tree = input.tree();
+    let mut text = vec![0; LARGE_TEXT];
+    let mut own = Vec::with_capacity(LARGE_TEXT);
+    let mut copy = vec![0; LARGE_TEXT];
+    assert_eq!(library::write_text(&input.file, &tree, 0, &mut text).outcome.map(|[used, _]| used), Ok(expected.len()));
+    assert_eq!(text[..expected.len()], *expected);
+    direct::write_text(&input.file, 0, LARGE_TEXT, &mut own).expect("accepted");
+    assert_eq!(own, expected);
+    let mut contenders: [Work; 4] = [
+        Box::new(|| _ = black_box(library::write_text(black_box(&input.file), &tree, 0, &mut text))),
+        Box::new(|| _ = black_box(direct::write_text(black_box(&input.file), 0, LARGE_TEXT, &mut own))),
+        Box::new(|| _ = black_box(whole(&formula(black_box(&input.file)).expect("accepted")))),
+        Box::new(|| black_box(&mut copy)[..expected.len()].copy_from_slice(black_box(expected))),
+    ];
+    in_turns(&mut contenders)
 }
 
 fn text_calls(input: &Input) {
@@ -236,28 +228,39 @@ fn readings(inputs: &[Input]) {
 
 // Growth
 
-/// Jobs in a row of `width` steps each, `jobs` of them below the root, over so many facts: nodes, variables and clauses grow one by one.
-fn grown(jobs: usize, width: usize, facts: usize) -> Input {
+/// How large a made table is.
+#[derive(Clone, Copy)]
+struct Size {
+    /// Names in the body of each method: a node that is not a slot has so many children.
+    width: usize,
+    /// How many steps a lowest place may hold.
+    steps: usize,
+    facts: usize,
+    depth: usize,
+}
+
+/// A job for each depth, each of them in a row of the next one, the last of any one step: nodes grow with the width and the depth, clauses over steps with
+/// the steps, those over facts with the facts.
+fn grown(size: Size) -> Input {
     let names = |kind: &str, count: usize| -> Vec<String> { (0..count).map(|number| format!("{kind}{number}")).collect() };
-    let facts = names("f", facts);
-    let step = |name: String| DraftStep {
-        name,
-        needs: Vec::new(),
-        sets: facts[..facts.len() / 2].to_vec(),
-        clears: facts[facts.len() / 2..].to_vec(),
-    };
-    let steps: Vec<DraftStep> = names("s", 8).into_iter().map(step).collect();
-    let mut methods = vec![("root".to_string(), vec!["row".to_string(); jobs])];
-    methods.extend(steps.iter().map(|step| ("row".to_string(), vec![step.name.clone(); width])));
-    let jobs = vec!["root".to_string(), "row".to_string()];
-    let draft = Draft { facts, steps, jobs, methods, start: Vec::new(), root: "root".to_string(), depth: "2".to_string() };
+    let facts = names("f", size.facts);
+    let (set, cleared) = facts.split_at(size.facts / 2);
+    let step = |name: String| DraftStep { name, needs: Vec::new(), sets: set.to_vec(), clears: cleared.to_vec() };
+    let steps: Vec<DraftStep> = names("s", size.steps).into_iter().map(step).collect();
+    let jobs = names("job", size.depth);
+    let rows = jobs.windows(2).map(|pair| (pair[0].clone(), vec![pair[1].clone(); size.width]));
+    let last = &jobs[size.depth - 1];
+    let ways = steps.iter().map(|step| (last.clone(), vec![step.name.clone(); size.width]));
+    let methods = rows.chain(ways).collect();
+    let root = jobs[0].clone();
+    let draft = Draft { facts, steps, jobs, methods, start: Vec::new(), root, depth: size.depth.to_string() };
     let mut input = Input { name: String::new(), file: draft.file(), answer: Vec::new() };
-    input.answer = first_ways(&input.file);
+    input.answer = first_model(&input.file);
     input
 }
 
-/// The answer that does every job by its first way; what cannot be given its own value is found by doing the steps.
-fn first_ways(file: &[u8]) -> Vec<u8> {
+/// The answer with the first model that a search finds.
+fn first_model(file: &[u8]) -> Vec<u8> {
     let formula = formula(file).expect("a table that is measured is accepted");
     let cnf = planner::dimacs::Cnf { variables: formula.variables.count as usize, clauses: formula.clauses };
     let found = planner::search::models(&cnf, 1, 100_000).models;
@@ -265,14 +268,15 @@ fn first_ways(file: &[u8]) -> Vec<u8> {
 }
 
 fn growth() {
-    let columns =
-        ["what grows", "nodes", "variables", "clauses", "bytes of text", "check", "whole text", "ns a byte", "take_answer", "ns a clause"];
-    title("Growth", &columns);
-    let series: [(&str, Vec<(usize, usize, usize)>); 2] =
-        [("nodes", vec![(1, 8, 8), (2, 8, 8), (4, 8, 8), (8, 8, 8)]), ("facts", vec![(8, 8, 4), (8, 8, 16), (8, 8, 32), (8, 8, 64)])];
-    for (what, sizes) in series {
-        for (jobs, width, facts) in sizes {
-            growth_row(what, &grown(jobs, width, facts));
+    let columns = "what grows, nodes, variables, clauses, bytes of text, check, ns a node, whole text, ns a byte, take_answer, ns a clause";
+    title("Growth", &columns.split(", ").collect::<Vec<&str>>());
+    let size = |width, steps, facts, depth| Size { width, steps, facts, depth };
+    let nodes = [2, 4, 6, 8].map(|width| size(width, 2, 2, 3));
+    let steps = [2, 8, 16, 64].map(|steps| size(8, steps, 8, 2));
+    let facts = [4, 16, 32, 64].map(|facts| size(8, 8, facts, 2));
+    for (what, sizes) in [("nodes", nodes), ("steps", steps), ("facts", facts)] {
+        for size in sizes {
+            growth_row(what, &grown(size));
         }
     }
 }
@@ -297,6 +301,7 @@ fn growth_row(what: &str, input: &Input) {
         grouped(clauses),
         grouped(used),
         shown(checked.median()),
+        format!("{:.0}", checked.median() * 1e9 / nodes as f64),
         shown(written.median()),
         format!("{:.1}", written.median() * 1e9 / used as f64),
         shown(taken.median()),

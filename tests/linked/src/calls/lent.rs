@@ -55,10 +55,10 @@ fn exchange_records(random: &mut Random, tree: &mut [u64], nodes: usize) {
     }
 }
 
-/// Too short, just long enough, and one byte less and more than some whole lines take.
-pub fn text_lengths(random: &mut Random, subject: &Subject, first: usize) -> [usize; 3] {
+/// Too short or just long enough; what some whole lines take, and one byte less and more.
+pub fn text_lengths(random: &mut Random, subject: &Subject, first: usize) -> [usize; 4] {
     let whole = lines_of_some_bytes(random, subject, first);
-    [*random.pick(&[0, 1, TEXT_BYTES - 1, TEXT_BYTES, TEXT_BYTES + 1, 65_536]), whole - 1, whole]
+    [*random.pick(&[0, 1, TEXT_BYTES - 1, TEXT_BYTES, TEXT_BYTES + 1, 65_536]), whole - 1, whole, whole + 1]
 }
 
 /// How many bytes the lines from `first` on take, as many as come to a random length, which is at least what a call wants.

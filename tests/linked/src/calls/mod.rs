@@ -1,19 +1,17 @@
 //! Cases through the five linked calls, each held to the second planner's call with the same contents in every buffer: what comes back, and
-//! what every buffer, with a margin on both sides of the part that was lent, holds afterwards.
+//! what every buffer, with a margin on both sides of the part that was lent, and all that was lent for reading holds afterwards.
 
+mod held;
 mod lent;
 
-use crate::library::{self, Called};
+use crate::library;
+use held::{Call, Lent, MARGIN};
 use lent::{text_lengths, trees, values_lent, Subject};
 use planner::calls::{self as second, LISTING_BYTES, VALUES};
 use planner::make::cases::{answer_case, at_limit, past_limit, table_case, AnswerCase};
 use planner::make::limits::LIMITS;
 use planner::random::Random;
 use planner::runs::Tally;
-use planner::Outcome;
-
-/// Elements in front of and behind what is lent, which no call may touch.
-const MARGIN: usize = 16;
 
 pub fn compare(tally: &mut Tally, random: &mut Random, cases: usize) {
     let before = tally.passed + tally.failed;
@@ -35,13 +33,16 @@ pub fn compare(tally: &mut Tally, random: &mut Random, cases: usize) {
 /// Check, build and text calls on one table. `other` is the tree of the last table that was accepted.
 fn table_calls(tally: &mut Tally, random: &mut Random, subject: &Subject, other: &mut Vec<u64>) {
     let file = &subject.file;
-    let called = library::check(file);
-    let expected = second::check(file).map(|(nodes, variables, clauses)| [nodes, variables, clauses]);
-    let call = Call { name: "check", subject, numbers: &[], lent: &[] };
-    call.count(tally, &called, &expected, true);
+    let call = Call { name: "check", file, numbers: &[], lent: &[] };
+    call.hold::<u8, 3>(
+        tally,
+        &[0; 2 * MARGIN],
+        |_| library::check(file),
+        |_| second::check(file).map(|(nodes, variables, clauses)| [nodes, variables, clauses]),
+    );
     for words in [5_120, *random.pick(&[0, 5, 5_115, 5_119, 5_121, 5_130, 6_000])] {
         let lent: Vec<u64> = random_words(random, words + 2 * MARGIN);
-        let call = Call { name: "build", subject, numbers: &[words], lent: &[] };
+        let call = Call { name: "build", file, numbers: &[words], lent: &[] };
         call.hold(tally, &lent, |tree| library::build(file, tree), |tree| second::build(file, tree).map(|nodes| [nodes]));
     }
     for tree in trees(random, subject, other) {
@@ -57,7 +58,7 @@ fn table_calls(tally: &mut Tally, random: &mut Random, subject: &Subject, other:
 
 fn text_call(tally: &mut Tally, random: &mut Random, subject: &Subject, tree: &[u64], line: usize, length: usize) {
     let lent = random_bytes(random, length + 2 * MARGIN);
-    let call = Call { name: "write_text", subject, numbers: &[tree.len(), line, length], lent: &[("tree", Lent::Words(tree))] };
+    let call = Call { name: "write_text", file: &subject.file, numbers: &[tree.len(), line, length], lent: &[("tree", Lent::Words(tree))] };
     call.hold(
         tally,
         &lent,
@@ -74,7 +75,7 @@ fn answer_calls(tally: &mut Tally, random: &mut Random, case: &AnswerCase, other
         let room = *random.pick(&[VALUES, VALUES, VALUES, VALUES + 1, VALUES + 300, VALUES - 1, 0]);
         let lent = random_bytes(random, room + 2 * MARGIN);
         let answer = [("tree", Lent::Words(&tree)), ("answer.txt", Lent::Bytes(&case.answer))];
-        let call = Call { name: "take_answer", subject: &subject, numbers: &[tree.len(), room], lent: &answer };
+        let call = Call { name: "take_answer", file, numbers: &[tree.len(), room], lent: &answer };
         call.hold(
             tally,
             &lent,
@@ -85,7 +86,7 @@ fn answer_calls(tally: &mut Tally, random: &mut Random, case: &AnswerCase, other
         let room = *random.pick(&[LISTING_BYTES, LISTING_BYTES, LISTING_BYTES, LISTING_BYTES + 1, 30_000, LISTING_BYTES - 1, 0]);
         let lent = random_bytes(random, room + 2 * MARGIN);
         let lent_values = [("tree", Lent::Words(&tree)), ("values", Lent::Bytes(&values))];
-        let call = Call { name: "list_procedure", subject: &subject, numbers: &[tree.len(), values.len(), room], lent: &lent_values };
+        let call = Call { name: "list_procedure", file, numbers: &[tree.len(), values.len(), room], lent: &lent_values };
         call.hold(
             tally,
             &lent,
@@ -95,59 +96,6 @@ fn answer_calls(tally: &mut Tally, random: &mut Random, case: &AnswerCase, other
     }
     if !subject.tree.is_empty() {
         other.clone_from(&subject.tree);
-    }
-}
-
-/// What a call reads besides the file.
-enum Lent<'a> {
-    Words(&'a [u64]),
-    Bytes(&'a [u8]),
-}
-
-impl Lent<'_> {
-    fn bytes(&self) -> Vec<u8> {
-        match self {
-            Lent::Words(words) => words.iter().flat_map(|word| word.to_le_bytes()).collect(),
-            Lent::Bytes(bytes) => bytes.to_vec(),
-        }
-    }
-}
-
-/// A call with what it is lent, for the account of a case that fails.
-struct Call<'a> {
-    name: &'a str,
-    subject: &'a Subject,
-    numbers: &'a [usize],
-    lent: &'a [(&'a str, Lent<'a>)],
-}
-
-impl Call<'_> {
-    /// The linked call and the second planner's on the same contents, of which all but the margins are lent.
-    fn hold<T: Clone + PartialEq, const N: usize>(
-        &self,
-        tally: &mut Tally,
-        contents: &[T],
-        linked: impl FnOnce(&mut [T]) -> Called<N>,
-        second: impl FnOnce(&mut [T]) -> Outcome<[usize; N]>,
-    ) {
-        let lent = MARGIN..contents.len() - MARGIN;
-        let (mut after, mut wanted) = (contents.to_vec(), contents.to_vec());
-        let called = linked(&mut after[lent.clone()]);
-        let expected = second(&mut wanted[lent]);
-        self.count(tally, &called, &expected, after == wanted);
-    }
-
-    fn count<const N: usize>(&self, tally: &mut Tally, called: &Called<N>, expected: &Outcome<[usize; N]>, same_contents: bool) {
-        let passes = called.kept && same_contents && called.outcome == *expected;
-        let number = expected.map_or_else(|refused| refused.0, |_| 0);
-        if passes {
-            return tally.case(self.name, number, true, &[]);
-        }
-        let account = format!("{} {:?}: {called:?}, expected {expected:?}, buffers the same: {same_contents}\n", self.name, self.numbers);
-        let mut files = vec![("table.tab", self.subject.file.clone()), ("call", account.into_bytes())];
-        files.extend(self.lent.iter().map(|(name, lent)| (*name, lent.bytes())));
-        let files: Vec<(&str, &[u8])> = files.iter().map(|(name, bytes)| (*name, &bytes[..])).collect();
-        tally.case(&format!("linked call {}", self.name), number, false, &files);
     }
 }
 

@@ -1,24 +1,27 @@
 //! The clauses in document 01's order, each handed on as it is made.
 
+use super::counts;
 use super::places::{members, Node, Plan};
+use std::cell::Cell;
 
-/// Whether all clauses pass; ends at the first that does not.
-pub fn each(plan: &Plan, pass: impl FnMut(&[i32]) -> bool) -> bool {
-    Maker { plan, pass, clause: Vec::with_capacity(130) }.all()
-}
-
-pub fn count(plan: &Plan) -> usize {
-    let mut clauses = 0;
-    each(plan, |_| {
-        clauses += 1;
-        true
-    });
-    clauses
+/// Whether all clauses behind the first `skipped` pass; ends at the first that does not.
+pub fn each(plan: &Plan, skipped: usize, mut pass: impl FnMut(&[i32]) -> bool) -> bool {
+    let skip = &Cell::new(skipped);
+    let pass = |clause: &[i32]| match skip.get() {
+        0 => pass(clause),
+        left => {
+            skip.set(left - 1);
+            true
+        }
+    };
+    Maker { plan, pass, skip, clause: Vec::with_capacity(130) }.all()
 }
 
 struct Maker<'a, P> {
     plan: &'a Plan,
     pass: P,
+    /// How many clauses are yet to be skipped.
+    skip: &'a Cell<usize>,
     /// The clause that is being put together.
     clause: Vec<i32>,
 }
@@ -28,12 +31,19 @@ impl<P: FnMut(&[i32]) -> bool> Maker<'_, P> {
         let plan = self.plan;
         let mut slots = 0;
         (self.pass)(&[plan.nodes[0].job(plan.table.root)])
-            && plan.nodes.iter().all(|node| self.node(node))
+            && plan.nodes.iter().all(|node| self.is_skipped(|| counts::of_node(plan, node)) || self.node(node))
             && self.start()
             && plan.nodes.iter().filter(|node| !node.inner).all(|node| {
                 slots += 1;
-                self.slot(node, slots - 1)
+                self.is_skipped(|| counts::of_slot(plan, node)) || self.slot(node, slots - 1)
             })
+    }
+
+    /// So many clauses at once, where all of them are to be skipped.
+    fn is_skipped(&self, count: impl FnOnce() -> usize) -> bool {
+        let left = self.skip.get();
+        let rest = if left == 0 { None } else { left.checked_sub(count()) };
+        rest.is_some_and(|rest| (self.skip.set(rest), true).1)
     }
 
     fn node(&mut self, node: &Node) -> bool {

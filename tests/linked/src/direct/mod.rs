@@ -3,6 +3,7 @@
 
 mod answer;
 mod clauses;
+mod counts;
 mod places;
 mod table;
 mod text;
@@ -15,7 +16,7 @@ use planner::{question, Outcome, Refused};
 /// The counts of nodes, variables and clauses, as the check call gives them.
 pub fn check(file: &[u8]) -> Outcome<[usize; 3]> {
     let plan = Plan::of(read(file)?)?;
-    Ok([plan.nodes.len(), plan.variables, clauses::count(&plan)])
+    Ok([plan.nodes.len(), plan.variables, counts::all(&plan)])
 }
 
 /// The text from a line on, as a text call writes it into so many bytes, 1,024 or more: the bytes used and the next line.
@@ -32,7 +33,7 @@ pub fn write_text(file: &[u8], line: usize, room: usize, text: &mut Vec<u8>) -> 
 pub fn take_answer(file: &[u8], reply: &[u8], values: &mut [u8]) -> Outcome<usize> {
     let plan = Plan::of(read(file)?)?;
     let heard = answer::values(reply, plan.variables)?;
-    question(15, clauses::each(&plan, |clause| clause.iter().any(|literal| answer::is_true(&heard, *literal))))?;
+    question(15, clauses::each(&plan, 0, |clause| clause.iter().any(|literal| answer::is_true(&heard, *literal))))?;
     values.get_mut(..heard.len()).ok_or(Refused(1))?.copy_from_slice(&heard);
     Ok(heard.len())
 }
@@ -54,7 +55,7 @@ mod tests {
             let case = answer_case(&mut random);
             for file in [&case.table, &table_case(&mut random).table] {
                 assert_eq!(check(file), calls::check(file).map(|(nodes, variables, clauses)| [nodes, variables, clauses]));
-                for (line, room) in [(0, usize::MAX), (random.below(20), random.between(1_024, 3_000))] {
+                for (line, room) in [(0, usize::MAX), (random.below(20), random.between(1_024, 3_000)), (random.below(2_000), 1_024)] {
                     let mut text = Vec::new();
                     let expected = formula(file).and_then(|formula| lines_that_fit(&formula, line, room));
                     let written = write_text(file, line, room, &mut text);

@@ -1,21 +1,23 @@
 //! The text of a formula.
 
-use super::clauses::{count, each};
+use super::clauses::each;
+use super::counts;
 use super::places::Plan;
 
-/// The lines from `first` on, as many as come to `room` bytes; the next line. Clauses before the first are made and passed over.
+/// The lines from `first` on, as many as come to `room` bytes; the next line. Of what lies before the first, whole nodes and slots are skipped.
 pub fn write(plan: &Plan, first: usize, room: usize, text: &mut Vec<u8>) -> usize {
-    let header = format!("p cnf {} {}\n", plan.variables, count(plan));
+    let header = format!("p cnf {} {}\n", plan.variables, counts::all(plan));
     if first == 0 {
         if header.len() > room {
             return 0;
         }
         text.extend(header.bytes());
     }
-    let mut number = 0;
-    let all = each(plan, |clause| {
+    let skipped = first.saturating_sub(1);
+    let mut number = skipped;
+    let all = each(plan, skipped, |clause| {
         number += 1;
-        number < first || fits(clause, room, text)
+        fits(clause, room, text)
     });
     number + usize::from(all)
 }

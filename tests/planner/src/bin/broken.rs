@@ -96,7 +96,7 @@ fn case_at(program: &str, said: &str) -> String {
 
 /// The likelier one first.
 fn programs_for(edit: &str) -> [&'static str; 2] {
-    let of_answers = ["answer/", "cells/", "listing/", "model/", "reply/", "numerals/"];
+    let of_answers = ["answer/", "cells/", "listing/", "model/", "solver/"];
     if of_answers.iter().any(|start| edit.starts_with(start)) {
         ["procedures", "formulas"]
     } else {
@@ -112,7 +112,8 @@ fn caught(edit: &Edit) -> Option<String> {
         Tried::Same => None,
         Tried::Differs(case) => Some(case),
         Tried::NotEnded => Some(format!("{program} failed or did not end within the time limit")),
-        Tried::NotCompiled => Some(format!("{program} is not compiled")),
+        // Nothing was run, so nothing was caught.
+        Tried::NotCompiled => None,
     });
     std::fs::write(&edit.file, text).expect("the copy can be changed");
     found

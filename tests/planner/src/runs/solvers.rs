@@ -104,7 +104,9 @@ fn as_it_comes(tally: &mut Tally, programs: &Programs, forms: &mut Forms, solver
     } else {
         forms.formed += 1;
     }
-    let passes = listed == expected.as_bytes() && [0, 12, 13].contains(&number);
+    // CryptoMiniSat ends a line that it breaks with a space, and an answer may be longer than one is allowed to be; nothing else is unformed.
+    let may_be_unformed = solver == "cryptominisat5" || answer.len() > 65_536;
+    let passes = listed == expected.as_bytes() && (number == 0 || number == 13 || number == 12 && may_be_unformed);
     tally.case(
         &format!("{solver} as it comes on {name}"),
         number,

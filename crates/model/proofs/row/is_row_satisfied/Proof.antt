@@ -1,8 +1,8 @@
--- `model::is_row_satisfied` meets its contract. The loop's invariant: the clauses of the row before place i are satisfied. The measure is
+-- `model::row::is_row_satisfied` meets its contract. The loop's invariant: the clauses of the row before place i are satisfied. The measure is
 -- the clauses left. Assumes nothing.
 use borrow.Author.Needs.{needs}
-use Rattle.model.proofs.is_row_satisfied.Statement.{statement}
-use Rattle.model.proofs.is_row_satisfied.Tie as tie
+use Rattle.model.proofs.row.is_row_satisfied.Statement.{statement}
+use Rattle.model.proofs.row.is_row_satisfied.Tie as tie
 use mathlib.Core.Path.{_≡_, sym, _∙_}
 use Prim.Native.Nat.{_-_}
 use native.Mathlib.Omega.{arith}
@@ -19,7 +19,7 @@ abbrev μ-loop : tie.MeasureT-loop
 μ-loop ws ix values lits₀ c i₀ lits i = c .len - i
 
 returns : tie.Need-returns Inv-loop μ-loop
-returns c = row-over (c .before .before .before .before .before .before .pre .1) (c .if1 .taken)
+returns c = row-over _ (c .before .before .before .before .before .before .pre .1) (c .if1 .taken)
 
 row-holds-requires : tie.Need-row-holds-requires Inv-loop μ-loop
 row-holds-requires c κs = (c .before .before .before .before .before .before .pre .0, here (c .before .before .before .before .before .before .pre .1) (c .if1 .left))
