@@ -1,4 +1,4 @@
-// The clause cursor: six numbers by value. Its method hands back the next clause's place and itself advanced. `ws` is the table's sheet
+// The clause cursor: seven numbers by value. Its method hands back the next clause's place and itself advanced. `ws` is the table's sheet
 // and `ix` its index.
 ghost use mathlib.Core.Path.{_≡_};
 ghost use Prim.Native.Nat.{_+_, _≤_, _<_};
@@ -124,16 +124,15 @@ impl Cursor {
 }
 
 // Counts ---------------------------------------------------------------------------------------------------------------------
-// The clauses of column x of letter g, of the letter, of node n, of rule r.
-fn count_rows(ws: &[u64], ix: &[u64], r: usize, n: usize, g: usize, x: usize) -> usize
-    requires { ⌜ InGroup (tableIn (now ws)) (now ix) r n g ⌝ }
+// The clauses of column x of letter g, which has e rows, of the letter, of node n, of rule r.
+fn count_rows(ws: &[u64], ix: &[u64], r: usize, n: usize, g: usize, x: usize, e: usize) -> usize
+    requires { ⌜ InGroup (tableIn (now ws)) (now ix) r n g × (x < (groupAt (source (tableIn (now ws))) r n g) .xs) × (e ≡ (groupAt (source (tableIn (now ws))) r n g) .ys) × (e ≤ 8) ⌝ }
     ensures { λ k. ⌜ (k ≡ sumTo (λ y. rowLen (source (tableIn (now (ws .entry)))) r n g x y) ((groupAt (source (tableIn (now (ws .entry)))) r n g) .ys)) × (k ≤ 1024) ⌝ }
 {
-    let e = shape::ys_in(ws, ix, r, n, g);
     let mut k: usize = 0;
     let mut y: usize = 0;
     while y < e {
-        k += shape::row_len(ws, ix, r, n, g, x, y);
+        k += shape::len_in(ws, ix, r, n, g, x, y);
         y += 1;
     }
     k
@@ -143,11 +142,12 @@ fn count_columns(ws: &[u64], ix: &[u64], r: usize, n: usize, g: usize) -> usize
     requires { ⌜ InGroup (tableIn (now ws)) (now ix) r n g ⌝ }
     ensures { λ k. ⌜ (k ≡ columnsCount (source (tableIn (now (ws .entry)))) r n g) × (k ≤ 131072) ⌝ }
 {
+    let rows = shape::ys_in(ws, ix, r, n, g);
     let e = shape::xs_in(ws, ix, r, n, g);
     let mut k: usize = 0;
     let mut x: usize = 0;
     while x < e {
-        k += count_rows(ws, ix, r, n, g, x);
+        k += count_rows(ws, ix, r, n, g, x, rows);
         x += 1;
     }
     k

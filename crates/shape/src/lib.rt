@@ -293,7 +293,8 @@ pub fn ys_in(ws: &[u64], ix: &[u64], r: usize, n: usize, g: usize) -> usize
     1
 }
 
-fn len_in(ws: &[u64], ix: &[u64], r: usize, n: usize, g: usize, x: usize, y: usize) -> usize
+// How many clauses row (x, y) has, where there is such a row.
+pub fn len_in(ws: &[u64], ix: &[u64], r: usize, n: usize, g: usize, x: usize, y: usize) -> usize
     requires { ⌜ InGroup (tableIn (now ws)) (now ix) r n g × (x < (groupAt (source (tableIn (now ws))) r n g) .xs) × (y < (groupAt (source (tableIn (now ws))) r n g) .ys) ⌝ }
     ensures { λ k. ⌜ k ≡ (groupAt (source (tableIn (now (ws .entry)))) r n g) .len x y ⌝ }
 {
@@ -309,7 +310,7 @@ fn len_in(ws: &[u64], ix: &[u64], r: usize, n: usize, g: usize, x: usize, y: usi
     1
 }
 
-// How many clauses row (x, y) has.
+// How many clauses row (x, y) has; 0 where there is no such row.
 pub fn row_len(ws: &[u64], ix: &[u64], r: usize, n: usize, g: usize, x: usize, y: usize) -> usize
     requires { ⌜ InGroup (tableIn (now ws)) (now ix) r n g ⌝ }
     ensures { λ k. ⌜ (k ≡ rowLen (source (tableIn (now (ws .entry)))) r n g x y) × (k ≤ 128) ⌝ }

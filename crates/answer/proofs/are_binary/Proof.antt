@@ -1,8 +1,6 @@
 use borrow.Author.Needs.{needs}
 use Rattle.answer.proofs.are_binary.Statement.{statement}
 use Rattle.answer.proofs.are_binary.Tie as tie
-use Rattle.answer.proofs.are_binary.Reads as reads
-use Rattle.answer.proofs.are_binary.Lts as lts
 use mathlib.Core.Path.{_≡_}
 use Prim.Native.Nat.{_-_}
 use lib.Dec.{leb}
@@ -17,31 +15,24 @@ Inv-loop values i₀ i = all (λ v. leb v 1) values ≡ binaryFrom values i
 abbrev μ-loop : tie.MeasureT-loop
 μ-loop values i₀ i = length values - i
 
--- src/lib.rt:83:5
 loop-holds : tie.Need-loop-holds Inv-loop μ-loop
 loop-holds c = search needs
 
--- src/lib.rt:84:12
 shared-slice-read-if1 : tie.Need-shared-slice-read-if1 Inv-loop μ-loop
 shared-slice-read-if1 c = search needs
 
--- src/lib.rt:85:13
 returns : tie.Need-returns Inv-loop μ-loop
 returns c = binary-off (c .before .before .before .before .args .values .now) (c .before .before .loop-test .taken) (c .before .before .before .loop .inv) (omega (arith, c .if1 .taken))
 
--- src/lib.rt:87:9
 add-i : tie.Need-add-i Inv-loop μ-loop
 add-i c = search needs
 
--- src/lib.rt:83:5
 loop-less : tie.Need-loop-less Inv-loop μ-loop
 loop-less c = search needs
 
--- src/lib.rt:83:5
 loop-again : tie.Need-loop-again Inv-loop μ-loop
 loop-again c = binary-more (c .before .before .before .before .args .values .now) (c .before .before .loop-test .taken) (c .before .before .before .loop .inv) (c .if1 .left)
 
--- src/lib.rt:79:1
 returns-2 : tie.Need-returns-2 Inv-loop μ-loop
 returns-2 c = binary-end (c .before .before .args .values .now) (c .loop-test .left) (c .before .loop .inv)
 

@@ -1,51 +1,37 @@
 use borrow.Author.Needs.{needs}
 use Rattle.answer.proofs.list_procedure.Statement.{statement}
 use Rattle.answer.proofs.list_procedure.Tie as tie
-use Rattle.answer.proofs.list_procedure.Reads as reads
-use Rattle.answer.proofs.list_procedure.Lts as lts
-use Rattle.answer.proofs.list_lines.Reads as list-lines-reads
-use Rattle.questions.proofs.prepare.Reads as prepare-reads
 use lib.Dec.{lit≤}
 use Rattle.answer.proofs.Outcomes.{list-short, list-short-tree, list-short-values, list-short-text, list-unmet, list-met}
 use native.Mathlib.Omega.{arith}
 
--- src/lib.rt:120:9
 returns : tie.Need-returns
 returns c = list-short (c .before .before .before .before .before .args .file .now) (c .before .before .before .before .before .args .tree .now) (c .before .before .before .before .before .args .values .now) (c .before .before .before .before .before .args .text .now) (list-short-tree (c .before .before .before .before .before .args .file .now) (c .before .before .before .before .before .args .tree .now) (c .before .before .before .before .before .args .values .now) (c .before .before .before .before .before .args .text .now) (c .if1 .taken))
 
--- src/lib.rt:123:9
 returns-2 : tie.Need-returns-2
 returns-2 c = list-short (c .before .before .before .before .before .before .args .file .now) (c .before .before .before .before .before .before .args .tree .now) (c .before .before .before .before .before .before .args .values .now) (c .before .before .before .before .before .before .args .text .now) (list-short-values (c .before .before .before .before .before .before .args .file .now) (c .before .before .before .before .before .before .args .tree .now) (c .before .before .before .before .before .before .args .values .now) (c .before .before .before .before .before .before .args .text .now) (c .if2 .taken))
 
--- src/lib.rt:126:9
 returns-3 : tie.Need-returns-3
 returns-3 c = list-short (c .before .before .before .before .before .before .before .args .file .now) (c .before .before .before .before .before .before .before .args .tree .now) (c .before .before .before .before .before .before .before .args .values .now) (c .before .before .before .before .before .before .before .args .text .now) (list-short-text (c .before .before .before .before .before .before .before .args .file .now) (c .before .before .before .before .before .before .before .args .tree .now) (c .before .before .before .before .before .before .before .args .values .now) (c .before .before .before .before .before .before .before .args .text .now) (omega (arith, c .if3 .taken)))
 
--- src/lib.rt:129:38
 slice-aggregate-prepare : tie.Need-slice-aggregate-prepare
 slice-aggregate-prepare c = search needs
 
--- src/lib.rt:129:9
 prepare-requires : tie.Need-prepare-requires
 prepare-requires c κs = lit≤ tt
 
--- src/lib.rt:131:9
 returns-4 : tie.Need-returns-4
 returns-4 c = list-unmet (c .before .before .before .before .before .before .before .before .before .before .before .before .args .file .now) (c .before .before .before .before .before .before .before .before .before .before .before .before .args .tree .now) (c .before .before .before .before .before .before .before .before .before .before .before .before .args .values .now) (c .before .before .before .before .before .before .before .before .before .before .before .before .args .text .now) (c .before .before .before .before .before .before .before .if1 .left) (c .before .before .before .before .before .before .if2 .left) (c .before .before .before .before .before .if3 .left) (c .before .before .before .prepare .ensures) (c .if4 .taken)
 
--- src/lib.rt:133:25
 slice-aggregate-list-lines : tie.Need-slice-aggregate-list-lines
 slice-aggregate-list-lines c = search needs
 
--- src/lib.rt:133:5
 list-lines-requires : tie.Need-list-lines-requires
 list-lines-requires c κs = (c .before .before .before .before .before .prepare .ensures, c .before .before .if4 .left, c .before .before .before .before .before .before .before .before .before .if1 .left, c .before .before .before .before .before .before .before .before .if2 .left, c .before .before .before .before .before .before .before .if3 .left)
 
--- src/lib.rt:116:1
 same-length : tie.Need-same-length
 same-length c = search needs
 
--- src/lib.rt:116:1
 returns-5 : tie.Need-returns-5
 returns-5 c = list-met (c .before .before .before .before .before .before .before .before .before .before .before .before .before .before .before .before .before .args .file .now) (c .before .before .before .before .before .before .before .before .before .before .before .before .before .before .before .before .before .args .tree .now) (c .before .before .before .before .before .before .before .before .before .before .before .before .before .before .before .before .before .args .values .now) (c .before .before .before .before .before .before .before .before .before .before .before .before .before .before .before .before .before .args .text .now) (c .before .before .before .before .before .before .before .before .before .before .before .before .if1 .left) (c .before .before .before .before .before .before .before .before .before .before .before .if2 .left) (c .before .before .before .before .before .before .before .before .before .before .if3 .left) (c .before .before .before .before .before .before .before .before .prepare .ensures) (c .before .before .before .before .before .if4 .left) (c .before .before .list-lines .ensures)
 

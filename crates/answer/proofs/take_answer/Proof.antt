@@ -1,46 +1,33 @@
 use borrow.Author.Needs.{needs}
 use Rattle.answer.proofs.take_answer.Statement.{statement}
 use Rattle.answer.proofs.take_answer.Tie as tie
-use Rattle.answer.proofs.take_answer.Reads as reads
-use Rattle.answer.proofs.take_answer.Lts as lts
-use Rattle.answer.proofs.take_values.Reads as take-values-reads
-use Rattle.questions.proofs.prepare.Reads as prepare-reads
 use lib.Dec.{lit≤}
 use Rattle.answer.proofs.Outcomes.{take-short, take-short-tree, take-short-values, take-unmet, take-met}
 
--- src/lib.rt:64:9
 returns : tie.Need-returns
 returns c = take-short (c .before .before .before .before .before .args .file .now) (c .before .before .before .before .before .args .tree .now) (c .before .before .before .before .before .args .answer .now) (c .before .before .before .before .before .args .values .now) (take-short-tree (c .before .before .before .before .before .args .file .now) (c .before .before .before .before .before .args .tree .now) (c .before .before .before .before .before .args .answer .now) (c .before .before .before .before .before .args .values .now) (c .if1 .taken))
 
--- src/lib.rt:67:9
 returns-2 : tie.Need-returns-2
 returns-2 c = take-short (c .before .before .before .before .before .before .args .file .now) (c .before .before .before .before .before .before .args .tree .now) (c .before .before .before .before .before .before .args .answer .now) (c .before .before .before .before .before .before .args .values .now) (take-short-values (c .before .before .before .before .before .before .args .file .now) (c .before .before .before .before .before .before .args .tree .now) (c .before .before .before .before .before .before .args .answer .now) (c .before .before .before .before .before .before .args .values .now) (c .if2 .taken))
 
--- src/lib.rt:70:38
 slice-aggregate-prepare : tie.Need-slice-aggregate-prepare
 slice-aggregate-prepare c = search needs
 
--- src/lib.rt:70:9
 prepare-requires : tie.Need-prepare-requires
 prepare-requires c κs = lit≤ tt
 
--- src/lib.rt:72:9
 returns-3 : tie.Need-returns-3
 returns-3 c = take-unmet (c .before .before .before .before .before .before .before .before .before .before .before .args .file .now) (c .before .before .before .before .before .before .before .before .before .before .before .args .tree .now) (c .before .before .before .before .before .before .before .before .before .before .before .args .answer .now) (c .before .before .before .before .before .before .before .before .before .before .before .args .values .now) (c .before .before .before .before .before .before .if1 .left) (c .before .before .before .before .before .if2 .left) (c .before .before .before .prepare .ensures) (c .if3 .taken)
 
--- src/lib.rt:74:17
 slice-aggregate-take-values : tie.Need-slice-aggregate-take-values
 slice-aggregate-take-values c = search needs
 
--- src/lib.rt:74:5
 take-values-requires : tie.Need-take-values-requires
 take-values-requires c κs = (c .before .before .before .before .before .prepare .ensures .accepted (c .before .before .if3 .left), c .before .before .before .before .before .prepare .ensures .variables (c .before .before .if3 .left), c .before .before .before .before .before .before .before .before .if1 .left, c .before .before .before .before .before .before .before .if2 .left)
 
--- src/lib.rt:60:1
 same-length : tie.Need-same-length
 same-length c = search needs
 
--- src/lib.rt:60:1
 returns-4 : tie.Need-returns-4
 returns-4 c = take-met (c .before .before .before .before .before .before .before .before .before .before .before .before .before .before .before .before .args .file .now) (c .before .before .before .before .before .before .before .before .before .before .before .before .before .before .before .before .args .tree .now) (c .before .before .before .before .before .before .before .before .before .before .before .before .before .before .before .before .args .answer .now) (c .before .before .before .before .before .before .before .before .before .before .before .before .before .before .before .before .args .values .now) (c .before .before .before .before .before .before .before .before .before .before .before .if1 .left) (c .before .before .before .before .before .before .before .before .before .before .if2 .left) (c .before .before .before .before .before .before .before .before .prepare .ensures) (c .before .before .before .before .before .if3 .left) (c .before .before .take-values .ensures)
 

@@ -1,12 +1,6 @@
 use borrow.Author.Needs.{needs}
 use Rattle.answer.proofs.take_values.Statement.{statement}
 use Rattle.answer.proofs.take_values.Tie as tie
-use Rattle.answer.proofs.take_values.Reads as reads
-use Rattle.answer.proofs.take_values.Lts as lts
-use Rattle.cells.proofs.read.Reads as read-reads
-use Rattle.model.proofs.is_model.Reads as is-model-reads
-use Rattle.questions.proofs.place.Reads as place-reads
-use Rattle.writer.proofs.put_bytes.Reads as put-bytes-reads
 use native.Mathlib.Omega.{arith}
 use mathlib.Core.Path.{sym}
 use lib.Seq.{length-take-le}
@@ -14,71 +8,54 @@ use Rattle.lists.proofs.Written.{wrote-whole}
 use Rattle.sheet.specs.Sheet.{tableIn}
 use Rattle.answer.proofs.Taking.{other-tree, not-heard, not-model, took, heard-by, copy-room}
 
--- src/lib.rt:43:40
 slice-aggregate-place : tie.Need-slice-aggregate-place
 slice-aggregate-place c = search needs
 
--- src/lib.rt:43:9
 place-requires : tie.Need-place-requires
 place-requires c κs = search needs
 
--- src/lib.rt:45:9
 returns : tie.Need-returns
 returns c = other-tree (tableIn (c .before .before .before .before .before .before .before .before .args .ws .now)) (c .before .before .before .before .before .before .before .before .args .tree .now) (c .before .before .before .before .before .before .before .before .args .answer .now) (c .before .before .before .before .before .before .before .before .args .values .now) (c .before .before .place .ensures .unmet (c .if1 .taken))
 
--- src/lib.rt:48:29
 slice-aggregate-read : tie.Need-slice-aggregate-read
 slice-aggregate-read c = search needs
 
--- src/lib.rt:48:9
 read-requires : tie.Need-read-requires
 read-requires c κs = (omega (arith, c .before .before .before .before .before .before .before .before .before .pre .1, c .before .before .before .before .before .before .before .before .before .pre .0 .few-variables))
 
--- src/lib.rt:50:9
 returns-2 : tie.Need-returns-2
 returns-2 c = not-heard (tableIn (c .before .before .before .before .before .before .before .before .before .before .before .before .args .ws .now)) (c .before .before .before .before .before .before .before .before .before .before .before .before .args .tree .now) (c .before .before .before .before .before .before .before .before .before .before .before .before .args .answer .now) (c .before .before .before .before .before .before .before .before .before .before .before .before .args .values .now) (c .before .before .before .before .before .before .place .ensures .met (c .before .before .before .before .if1 .left)) (c .before .before .before .before .before .before .before .before .before .before .before .before .pre .1) (heard-by (c .before .before .read .ensures)) (c .if2 .taken)
 
--- src/lib.rt:52:29
 array-share-prefix-ix : tie.Need-array-share-prefix-ix
 array-share-prefix-ix c = search needs
 
--- src/lib.rt:52:29
 slice-aggregate-is-model : tie.Need-slice-aggregate-is-model
 slice-aggregate-is-model c = sym (length-take-le _ _ (c .before .before .before .before .before .before .before .place .ensures .room))
 
--- src/lib.rt:52:39
 array-share-prefix-heard : tie.Need-array-share-prefix-heard
 array-share-prefix-heard c = (omega (arith, c .before .before .before .before .before .before .before .before .before .before .before .before .before .pre .1, c .before .before .before .before .before .before .before .before .before .before .before .before .before .pre .0 .few-variables))
 
--- src/lib.rt:52:39
 slice-aggregate-is-model-2 : tie.Need-slice-aggregate-is-model-2
 slice-aggregate-is-model-2 c = sym (length-take-le _ _ (omega (arith, c .before .before .before .before .before .before .before .before .before .before .before .before .before .before .pre .1, c .before .before .before .before .before .before .before .before .before .before .before .before .before .before .pre .0 .few-variables)))
 
--- src/lib.rt:52:9
 is-model-requires : tie.Need-is-model-requires
 is-model-requires c κs = c .before .before .before .before .before .before .before .before .place .ensures .index (c .before .before .before .before .before .before .if1 .left)
 
--- src/lib.rt:53:9
 returns-3 : tie.Need-returns-3
 returns-3 c = not-model (tableIn (c .before .before .before .before .before .before .before .before .before .before .before .before .before .before .before .before .args .ws .now)) (c .before .before .before .before .before .before .before .before .before .before .before .before .before .before .before .before .args .tree .now) (c .before .before .before .before .before .before .before .before .before .before .before .before .before .before .before .before .args .answer .now) (c .before .before .before .before .before .before .before .before .before .before .before .before .before .before .before .before .args .values .now) (c .before .before .before .before .before .before .before .before .before .before .place .ensures .met (c .before .before .before .before .before .before .before .before .if1 .left)) (c .before .before .before .before .before .before .before .before .before .before .before .before .before .before .before .before .pre .1) (heard-by (c .before .before .before .before .before .before .read .ensures)) (c .before .before .before .before .if2 .left) (c .before .is-model .ensures) (c .if3 .taken)
 
--- src/lib.rt:55:34
 array-share-prefix-heard-2 : tie.Need-array-share-prefix-heard-2
 array-share-prefix-heard-2 c = (omega (arith, c .before .before .before .before .before .before .before .before .before .before .before .before .before .before .before .before .before .pre .1, c .before .before .before .before .before .before .before .before .before .before .before .before .before .before .before .before .before .pre .0 .few-variables))
 
--- src/lib.rt:55:34
 slice-aggregate-put-bytes : tie.Need-slice-aggregate-put-bytes
 slice-aggregate-put-bytes c = sym (length-take-le _ _ (omega (arith, c .before .before .before .before .before .before .before .before .before .before .before .before .before .before .before .before .before .before .pre .1, c .before .before .before .before .before .before .before .before .before .before .before .before .before .before .before .before .before .before .pre .0 .few-variables)))
 
--- src/lib.rt:55:5
 put-bytes-requires : tie.Need-put-bytes-requires
 put-bytes-requires c κs = copy-room (c .before .before .before .before .before .before .before .before .before .before .before .before .before .before .before .before .before .before .args .values .now) (heard-by (c .before .before .before .before .before .before .before .before .read .ensures)) (omega (arith, c .before .before .before .before .before .before .before .before .before .before .before .before .before .before .before .before .before .before .pre .1, c .before .before .before .before .before .before .before .before .before .before .before .before .before .before .before .before .before .before .pre .0 .few-variables)) (c .before .before .before .before .before .before .before .before .before .before .before .before .before .before .before .before .before .before .pre .3)
 
--- src/lib.rt:38:1
 same-length : tie.Need-same-length
 same-length c = search needs
 
--- src/lib.rt:38:1
 returns-4 : tie.Need-returns-4
 returns-4 c = took (tableIn (c .before .before .before .before .before .before .before .before .before .before .before .before .before .before .before .before .before .before .before .before .before .args .ws .now)) (c .before .before .before .before .before .before .before .before .before .before .before .before .before .before .before .before .before .before .before .before .before .args .tree .now) (c .before .before .before .before .before .before .before .before .before .before .before .before .before .before .before .before .before .before .before .before .before .args .answer .now) (c .before .before .before .before .before .before .before .before .before .before .before .before .before .before .before .before .before .before .before .before .before .args .values .now) (c .before .before .before .before .before .before .before .before .before .before .before .before .before .before .before .place .ensures .met (c .before .before .before .before .before .before .before .before .before .before .before .before .before .if1 .left)) (c .before .before .before .before .before .before .before .before .before .before .before .before .before .before .before .before .before .before .before .before .before .pre .1) (heard-by (c .before .before .before .before .before .before .before .before .before .before .before .read .ensures)) (c .before .before .before .before .before .before .before .before .before .if2 .left) (c .before .before .before .before .before .before .is-model .ensures) (c .before .before .before .before .before .if3 .left) (wrote-whole (c .before .before .put-bytes .ensures))
 

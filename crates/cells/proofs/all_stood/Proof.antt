@@ -12,31 +12,24 @@ Inv-loop cells n i₀ i = Stood cells n i
 abbrev μ-loop : tie.MeasureT-loop
 μ-loop cells n i₀ i = n - i
 
--- src/lib.rt:208:5
 loop-holds : tie.Need-loop-holds Inv-loop μ-loop
 loop-holds c = stood-first _
 
--- src/lib.rt:209:12
 shared-slice-read-if1 : tie.Need-shared-slice-read-if1 Inv-loop μ-loop
 shared-slice-read-if1 c = lt-le (c .before .loop-test .taken) (c .before .before .before .pre)
 
--- src/lib.rt:210:13
 returns : tie.Need-returns Inv-loop μ-loop
 returns c = stood-out (c .before .before .before .loop .inv) (c .before .before .before .before .pre) (c .before .before .loop-test .taken) (omega (arith, c .if1 .taken))
 
--- src/lib.rt:212:9
 add-i : tie.Need-add-i Inv-loop μ-loop
 add-i c = search needs
 
--- src/lib.rt:208:5
 loop-less : tie.Need-loop-less Inv-loop μ-loop
 loop-less c = omega arith
 
--- src/lib.rt:208:5
 loop-again : tie.Need-loop-again Inv-loop μ-loop
 loop-again c = stood-more (c .before .before .before .loop .inv) (c .before .before .before .before .pre) (c .before .before .loop-test .taken) (c .if1 .left)
 
--- src/lib.rt:203:1
 returns-2 : tie.Need-returns-2 Inv-loop μ-loop
 returns-2 c = stood-done (c .before .loop .inv) (c .before .before .pre) (c .loop-test .left)
 

@@ -3,23 +3,18 @@ use Rattle.cells.proofs.fits_and_ends.Statement.{statement}
 use Rattle.cells.proofs.fits_and_ends.Tie as tie
 use Rattle.cells.proofs.Whole.{fits-long, fits-empty, fits-byte}
 
--- src/lib.rt:38:9
 returns : tie.Need-returns
 returns c = fits-long (c .before .args .s .now) (c .if1 .taken)
 
--- src/lib.rt:41:9
 returns-2 : tie.Need-returns-2
 returns-2 c = fits-empty (c .before .before .args .s .now) (c .if2 .taken)
 
--- src/lib.rt:43:7
 sub-result : tie.Need-sub-result
 sub-result c = search needs
 
--- src/lib.rt:43:5
 shared-slice-read-result : tie.Need-shared-slice-read-result
 shared-slice-read-result c = search needs
 
--- src/lib.rt:33:1
 returns-3 : tie.Need-returns-3
 returns-3 c = fits-byte (c .before .before .before .args .s .now) (c .before .before .if1 .left)
 

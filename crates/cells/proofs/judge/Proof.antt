@@ -4,27 +4,21 @@ use Rattle.cells.proofs.judge.Tie as tie
 use borrow.Author.Tests.{not-true, not-false}
 use Rattle.cells.proofs.Whole.{judge-unformed, judge-open, judge-off, judge-missing, judge-taken}
 
--- src/lib.rt:223:9
 returns : tie.Need-returns
 returns c = judge-unformed (c .before .before .before .args .n) (c .before .before .before .args .state) (c .before .before .before .args .cells .now) (not-true _ (c .if1 .taken))
 
--- src/lib.rt:226:9
 returns-2 : tie.Need-returns-2
 returns-2 c = judge-open (c .before .before .before .before .before .args .n) (c .before .before .before .before .before .args .state) (c .before .before .before .before .before .args .cells .now) (not-false _ (c .before .before .if1 .left)) (not-true _ (c .if2 .taken))
 
--- src/lib.rt:229:9
 returns-3 : tie.Need-returns-3
 returns-3 c = judge-off (c .before .before .before .before .before .before .args .n) (c .before .before .before .before .before .before .args .state) (c .before .before .before .before .before .before .args .cells .now) (not-false _ (c .before .before .before .if1 .left)) (not-false _ (c .before .if2 .left)) (c .if3 .taken)
 
--- src/lib.rt:231:9
 all-stood-requires : tie.Need-all-stood-requires
 all-stood-requires c κs = search needs
 
--- src/lib.rt:232:9
 returns-4 : tie.Need-returns-4
 returns-4 c = judge-missing (c .before .before .before .before .before .before .before .before .args .n) (c .before .before .before .before .before .before .before .before .args .state) (c .before .before .before .before .before .before .before .before .args .cells .now) (not-false _ (c .before .before .before .before .before .if1 .left)) (not-false _ (c .before .before .before .if2 .left)) (c .before .before .if3 .left) (c .before .all-stood .ensures) (not-true _ (c .if4 .taken))
 
--- src/lib.rt:218:1
 returns-5 : tie.Need-returns-5
 returns-5 c = judge-taken (c .before .before .before .before .before .before .before .before .args .n) (c .before .before .before .before .before .before .before .before .args .state) (c .before .before .before .before .before .before .before .before .args .cells .now) (not-false _ (c .before .before .before .before .before .if1 .left)) (not-false _ (c .before .before .before .if2 .left)) (c .before .before .if3 .left) (c .before .all-stood .ensures) (not-false _ (c .if4 .left))
 

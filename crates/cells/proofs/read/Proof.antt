@@ -7,67 +7,51 @@ use borrow.Author.Tests.{not-true, not-false}
 use Rattle.lists.proofs.Order.{le-refl, zero-least, ne-lt-one}
 use Rattle.cells.proofs.Whole.{read-unfit, read-nothing, read-satisfiable, read-other, read-wordless}
 
--- src/lib.rt:266:9
 fits-and-ends-requires : tie.Need-fits-and-ends-requires
 fits-and-ends-requires c κs = search needs
 
--- src/lib.rt:267:9
 returns : tie.Need-returns
 returns c = read-unfit (c .before .before .before .before .args .answer .now) (c .before .before .before .before .args .n) (c .before .fits-and-ends .ensures) (not-true _ (c .if1 .taken))
 
--- src/lib.rt:270:9
 pass-comments-requires : tie.Need-pass-comments-requires
 pass-comments-requires c κs = zero-least _
 
--- src/lib.rt:271:9
 cut-requires : tie.Need-cut-requires
 cut-requires c κs = (c .pass-comments .ensures .high, le-refl _)
 
--- src/lib.rt:273:9
 returns-2 : tie.Need-returns-2
 returns-2 c = read-nothing (c .before .before .before .before .before .before .before .args .answer .now) (c .before .before .before .before .before .before .before .args .n) (c .before .before .before .before .fits-and-ends .ensures) (not-false _ (c .before .before .before .if1 .left)) (c .before .before .pass-comments .ensures) (c .before .cut .ensures) (c .if2 .taken)
 
--- src/lib.rt:275:13
 add-i : tie.Need-add-i
 add-i c = omega arith
 
--- src/lib.rt:276:11
 word-of-requires : tie.Need-word-of-requires
 word-of-requires c κs = (c .before .cut .ensures .low, c .before .cut .ensures .high)
 
--- src/lib.rt:277:56
 enum-told : tie.Need-enum-told
 enum-told c = search needs
 
--- src/lib.rt:277:30
 read-values-requires : tie.Need-read-values-requires
 read-values-requires c κs = (ne-lt-one (c .before .before .before .before .before .cut .ensures .high) (c .before .before .before .before .if2 .left), c .before .before .before .before .before .before .before .before .before .before .before .pre)
 
--- src/lib.rt:278:24
 enum-told-2 : tie.Need-enum-told-2
 enum-told-2 c = search needs
 
--- src/lib.rt:278:24
 read-others-requires : tie.Need-read-others-requires
 read-others-requires c κs = ne-lt-one (c .before .before .before .before .cut .ensures .high) (c .before .before .before .if2 .left)
 
--- src/lib.rt:279:23
 enum-told-3 : tie.Need-enum-told-3
 enum-told-3 c = search needs
 
--- src/lib.rt:262:1
 same-length : tie.Need-same-length
 same-length c = c .before .before .read-values .kept .1 .1 .1 .0
 
--- src/lib.rt:262:1
 returns-3 : tie.Need-returns-3
 returns-3 c = read-satisfiable (c .before .before .before .before .before .before .before .before .before .before .before .before .before .before .args .answer .now) (c .before .before .before .before .before .before .before .before .before .before .before .before .before .before .args .n) (c .before .before .before .before .before .before .before .before .before .before .before .fits-and-ends .ensures) (not-false _ (c .before .before .before .before .before .before .before .before .before .before .if1 .left)) (c .before .before .before .before .before .before .before .before .before .pass-comments .ensures) (c .before .before .before .before .before .before .before .before .cut .ensures) (c .before .before .before .before .before .before .before .if2 .left) (sym (c .before .before .before .before .enum-told .given .1) ∙ c .before .before .before .before .before .before .word-of .ensures) (c .before .before .read-values .ensures)
 
--- src/lib.rt:262:1
 returns-4 : tie.Need-returns-4
 returns-4 c = read-other (c .before .before .before .before .before .before .before .before .before .before .before .args .answer .now) (c .before .before .before .before .before .before .before .before .before .before .before .args .n) (c .before .before .before .before .before .before .before .before .fits-and-ends .ensures) (not-false _ (c .before .before .before .before .before .before .before .if1 .left)) (c .before .before .before .before .before .before .pass-comments .ensures) (c .before .before .before .before .before .cut .ensures) (c .before .before .before .before .if2 .left) (sym (c .before .enum-told2 .given .1) ∙ c .before .before .before .word-of .ensures) (c .read-others .ensures)
 
--- src/lib.rt:262:1
 returns-5 : tie.Need-returns-5
 returns-5 c = read-wordless (c .before .before .before .before .before .before .before .before .before .before .args .answer .now) (c .before .before .before .before .before .before .before .before .before .before .args .n) (c .before .before .before .before .before .before .before .fits-and-ends .ensures) (not-false _ (c .before .before .before .before .before .before .if1 .left)) (c .before .before .before .before .before .pass-comments .ensures) (c .before .before .before .before .cut .ensures) (c .before .before .before .if2 .left) (sym (c .enum-told3 .given .1) ∙ c .before .before .word-of .ensures)
 

@@ -10,59 +10,45 @@ use Rattle.cells.specs.State.{readingFrom}
 use Rattle.cells.proofs.Letters.{values-room}
 use Rattle.cells.proofs.Reading.{stands-same, stands-none, stands-line, line-word, line-other, line-parts}
 
--- src/lib.rt:166:11
 kind-of-requires : tie.Need-kind-of-requires
 kind-of-requires c κs = (c .before .before .pre .1, c .before .before .pre .2)
 
--- src/lib.rt:167:26
 enum-told : tie.Need-enum-told
 enum-told c = search needs
 
--- src/lib.rt:168:23
 enum-told-2 : tie.Need-enum-told-2
 enum-told-2 c = search needs
 
--- src/lib.rt:168:23
 unformed-requires : tie.Need-unformed-requires
 unformed-requires c κs = search needs
 
--- src/lib.rt:170:21
 enum-told-3 : tie.Need-enum-told-3
 enum-told-3 c = search needs
 
--- src/lib.rt:170:21
 add-i : tie.Need-add-i
 add-i c = omega (arith, values-room (c .before .before .before .before .before .args .s .now) (c .before .before .before .before .before .args .a) (c .before .before .before .before .before .args .b) (c .before .before .before .before .before .pre .2) (sym (c .enum-told3 .given .1) ∙ c .before .before .kind-of .ensures), c .before .before .before .before .before .pre .2)
 
--- src/lib.rt:171:13
 read-parts-requires : tie.Need-read-parts-requires
 read-parts-requires c κs = (values-room (c .before .before .before .before .before .before .args .s .now) (c .before .before .before .before .before .before .args .a) (c .before .before .before .before .before .before .args .b) (c .before .before .before .before .before .before .pre .2) (sym (c .before .enum-told3 .given .1) ∙ c .before .before .before .kind-of .ensures), c .before .before .before .before .before .before .pre .2, c .before .before .before .before .before .before .pre .3)
 
--- src/lib.rt:173:24
 enum-told-4 : tie.Need-enum-told-4
 enum-told-4 c = search needs
 
--- src/lib.rt:173:24
 unformed-requires-2 : tie.Need-unformed-requires-2
 unformed-requires-2 c κs = search needs
 
--- src/lib.rt:162:1
 returns : tie.Need-returns
 returns c = stands-same (c .before .before .before .before .before .args .was) (c .before .before .before .before .before .args .cells .now) (slice (c .before .before .before .before .before .args .a) (c .before .before .before .before .before .args .b) (c .before .before .before .before .before .args .s .now)) (c .before .before .before .before .before .pre .0) (sym (c .enum-told .given .1) ∙ c .before .before .kind-of .ensures)
 
--- src/lib.rt:162:1
 returns-2 : tie.Need-returns-2
 returns-2 c = stands-none (readingFrom (c .before .before .before .before .before .before .args .was) (take (c .before .before .before .before .before .before .args .n) (c .before .before .before .before .before .before .args .cells .now))) (slice (c .before .before .before .before .before .before .args .a) (c .before .before .before .before .before .before .args .b) (c .before .before .before .before .before .before .args .s .now)) (line-word satisfiable (readingFrom (c .before .before .before .before .before .before .args .was) (take (c .before .before .before .before .before .before .args .n) (c .before .before .before .before .before .before .args .cells .now))) (slice (c .before .before .before .before .before .before .args .a) (c .before .before .before .before .before .before .args .b) (c .before .before .before .before .before .before .args .s .now)) (sym (c .before .enum-told2 .given .1) ∙ c .before .before .before .kind-of .ensures)) (c .unformed .ensures)
 
--- src/lib.rt:162:1
 same-length : tie.Need-same-length
 same-length c = search needs
 
--- src/lib.rt:162:1
 returns-3 : tie.Need-returns-3
 returns-3 c = stands-line (c .before .before .read-parts .ensures) (line-parts satisfiable (readingFrom (c .before .before .before .before .before .before .before .before .before .args .was) (take (c .before .before .before .before .before .before .before .before .before .args .n) (c .before .before .before .before .before .before .before .before .before .args .cells .now))) (c .before .before .before .before .before .before .before .before .before .args .s .now) (c .before .before .before .before .before .before .before .before .before .args .a) (c .before .before .before .before .before .before .before .before .before .args .b) (c .before .before .before .before .before .before .before .before .before .pre .2) (sym (c .before .before .before .before .enum-told3 .given .1) ∙ c .before .before .before .before .before .before .kind-of .ensures))
 
--- src/lib.rt:162:1
 returns-4 : tie.Need-returns-4
 returns-4 c = stands-none (readingFrom (c .before .before .before .before .before .before .args .was) (take (c .before .before .before .before .before .before .args .n) (c .before .before .before .before .before .before .args .cells .now))) (slice (c .before .before .before .before .before .before .args .a) (c .before .before .before .before .before .before .args .b) (c .before .before .before .before .before .before .args .s .now)) (line-other satisfiable (readingFrom (c .before .before .before .before .before .before .args .was) (take (c .before .before .before .before .before .before .args .n) (c .before .before .before .before .before .before .args .cells .now))) (slice (c .before .before .before .before .before .before .args .a) (c .before .before .before .before .before .before .args .b) (c .before .before .before .before .before .before .args .s .now)) (sym (c .before .enum-told4 .given .1) ∙ c .before .before .before .kind-of .ensures)) (c .unformed2 .ensures)
 

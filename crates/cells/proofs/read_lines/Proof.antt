@@ -15,51 +15,39 @@ Inv-loop s at cells₀ n m state₀ a₀ cells state a = Lines s at n cells₀ c
 abbrev μ-loop : tie.MeasureT-loop
 μ-loop s at cells₀ n m state₀ a₀ cells state a = length s - a
 
--- src/lib.rt:188:5
 loop-holds : tie.Need-loop-holds Inv-loop μ-loop
 loop-holds c = lines-first (c .before .before .args .s .now) (c .before .before .args .at) (c .before .before .args .n) (c .before .before .pre .0) (c .before .before .pre .2) refl refl refl
 
--- src/lib.rt:189:13
 cut-requires : tie.Need-cut-requires Inv-loop μ-loop
 cut-requires c κs = (c .before .loop .inv .high, le-refl _)
 
--- src/lib.rt:191:13
 same-length : tie.Need-same-length Inv-loop μ-loop
 same-length c = c .before .before .before .loop .inv .kept
 
--- src/lib.rt:191:13
 returns : tie.Need-returns Inv-loop μ-loop
 returns c = lines-last (c .before .before .before .loop .inv) (c .before .cut .ensures) (c .if1 .taken)
 
--- src/lib.rt:193:9
 read-line-requires : tie.Need-read-line-requires Inv-loop μ-loop
 read-line-requires c κs = (c .before .before .before .before .loop .inv .formed, c .before .before .cut .ensures .low, c .before .before .cut .ensures .high, le-at (c .before .before .before .before .loop .inv .kept) (c .before .before .before .before .before .before .before .pre .1))
 
--- src/lib.rt:195:13
 same-length-2 : tie.Need-same-length-2 Inv-loop μ-loop
 same-length-2 c = c .before .before .before .before .read-line .kept .1 .1 .1 .0 ∙ c .before .before .before .before .before .before .before .before .before .loop .inv .kept
 
--- src/lib.rt:195:13
 returns-2 : tie.Need-returns-2 Inv-loop μ-loop
 returns-2 c = lines-out (c .before .before .before .before .before .before .before .before .before .loop .inv) (c .before .before .before .before .before .before .before .cut .ensures) (c .before .before .before .before .before .before .if1 .left) (c .before .before .before .before .read-line .ensures) (not-true _ (c .if2 .taken))
 
--- src/lib.rt:197:13
 add-a : tie.Need-add-a Inv-loop μ-loop
 add-a c = omega arith
 
--- src/lib.rt:188:5
 loop-less : tie.Need-loop-less Inv-loop μ-loop
 loop-less c = falls (c .before .before .before .before .before .before .before .cut .ensures .low) (c .before .before .before .before .before .before .before .cut .ensures .high) (c .before .before .before .before .before .before .if1 .left)
 
--- src/lib.rt:188:5
 loop-again : tie.Need-loop-again Inv-loop μ-loop
 loop-again c = lines-more (c .before .before .before .before .before .before .before .before .before .loop .inv) (c .before .before .before .before .before .before .before .cut .ensures) (c .before .before .before .before .before .before .if1 .left) (c .before .before .before .before .read-line .ensures) (not-false _ (c .if2 .left)) (c .before .before .before .before .read-line .kept .1 .1 .1 .0)
 
--- src/lib.rt:177:1
 same-length-3 : tie.Need-same-length-3 Inv-loop μ-loop
 same-length-3 c = c .before .loop .inv .kept
 
--- src/lib.rt:177:1
 returns-3 : tie.Need-returns-3 Inv-loop μ-loop
 returns-3 c = lines-end (c .before .loop .inv) (c .loop-test .left)
 

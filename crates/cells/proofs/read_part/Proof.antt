@@ -4,35 +4,27 @@ use Rattle.cells.proofs.read_part.Tie as tie
 use Rattle.cells.proofs.Reading.{part-none, part-some}
 use Rattle.planning.specs.Clause.{literal}
 
--- src/lib.rt:135:11
 read-number-requires : tie.Need-read-number-requires
 read-number-requires c κs = (c .before .before .pre .0, c .before .before .pre .1)
 
--- src/lib.rt:136:25
 enum-told : tie.Need-enum-told
 enum-told c = search needs
 
--- src/lib.rt:136:25
 unformed-requires : tie.Need-unformed-requires
 unformed-requires c κs = search needs
 
--- src/lib.rt:137:25
 enum-known-v : tie.Need-enum-known-v
 enum-known-v c = search needs
 
--- src/lib.rt:137:37
 take-number-requires : tie.Need-take-number-requires
 take-number-requires c κs = c .before .before .before .before .before .before .before .pre .2
 
--- src/lib.rt:131:1
 returns : tie.Need-returns
 returns c = part-none _ (rw (c .before .enum-told .given .1) at (c .before .before .before .read-number .ensures)) (c .unformed .ensures)
 
--- src/lib.rt:131:1
 same-length : tie.Need-same-length
 same-length c = search needs
 
--- src/lib.rt:131:1
 returns-2 : tie.Need-returns-2
 returns-2 c = part-some _ (literal (c .before .before .before .before .before .v .given .0 .1 .0) (c .before .before .before .before .before .v .given .0 .0)) (rw (c .before .before .before .before .before .v .given .1) at (c .before .before .before .before .before .before .before .read-number .ensures)) (c .before .before .take-number .ensures)
 

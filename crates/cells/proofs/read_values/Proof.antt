@@ -4,23 +4,18 @@ use mathlib.Core.Path.{_∙_}
 use Rattle.cells.proofs.Whole.{judged}
 use Rattle.cells.proofs.Values.{le-at}
 
--- src/lib.rt:242:5
 clear-requires : tie.Need-clear-requires
 clear-requires c κs = c .before .before .before .pre .1
 
--- src/lib.rt:243:9
 read-lines-requires : tie.Need-read-lines-requires
 read-lines-requires c κs = (c .before .before .before .before .before .before .before .pre .0, le-at (c .before .before .before .clear .kept .0) (c .before .before .before .before .before .before .before .pre .1), c .before .before .before .clear .ensures)
 
--- src/lib.rt:244:5
 judge-requires : tie.Need-judge-requires
 judge-requires c κs = le-at (c .before .before .before .read-lines .kept .1 .1 .0 ∙ c .before .before .before .before .before .before .before .clear .kept .0) (c .before .before .before .before .before .before .before .before .before .before .before .pre .1)
 
--- src/lib.rt:238:1
 same-length : tie.Need-same-length
 same-length c = c .before .before .before .before .read-lines .kept .1 .1 .0 ∙ c .before .before .before .before .before .before .before .before .clear .kept .0
 
--- src/lib.rt:238:1
 returns : tie.Need-returns
 returns c = judged (c .before .before .before .before .read-lines .ensures) (c .judge .ensures)
 

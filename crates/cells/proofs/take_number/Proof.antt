@@ -3,35 +3,27 @@ use Rattle.cells.proofs.take_number.Statement.{statement}
 use Rattle.cells.proofs.take_number.Tie as tie
 use Rattle.cells.proofs.Reading.{number-after, number-end, number-put, number-off}
 
--- src/lib.rt:107:9
 unformed-requires : tie.Need-unformed-requires
 unformed-requires c κs = search needs
 
--- src/lib.rt:107:9
 returns : tie.Need-returns
 returns c = number-after (c .before .before .before .args .n) (c .before .before .before .args .was) (c .before .before .before .args .cells .now) (c .before .before .before .args .sign) (c .before .before .before .args .v) (c .before .if1 .taken) (c .unformed .ensures)
 
--- src/lib.rt:110:9
 returns-2 : tie.Need-returns-2
 returns-2 c = number-end (c .before .before .before .args .n) (c .before .before .before .args .was) (c .before .before .before .args .cells .now) (c .before .before .before .args .sign) (c .before .before .before .args .v) (c .before .if1 .left) (c .if2 .taken)
 
--- src/lib.rt:116:8
 put-requires : tie.Need-put-requires
 put-requires c κs = search needs
 
--- src/lib.rt:117:9
 same-length : tie.Need-same-length
 same-length c = search needs
 
--- src/lib.rt:117:9
 returns-3 : tie.Need-returns-3
 returns-3 c = number-put (c .before .before .before .before .before .before .before .before .args .n) (c .before .before .before .before .before .before .before .before .args .was) (c .before .before .before .before .before .before .before .before .args .cells .now) (c .before .before .before .before .before .before .before .before .args .sign) (c .before .before .before .before .before .before .before .before .args .v) (c .before .before .before .before .before .before .if1 .left) (c .before .before .before .before .before .if2 .left) (c .before .before .before .put .ensures) (c .if3 .taken)
 
--- src/lib.rt:102:1
 same-length-2 : tie.Need-same-length-2
 same-length-2 c = search needs
 
--- src/lib.rt:102:1
 returns-4 : tie.Need-returns-4
 returns-4 c = number-off (c .before .before .before .before .before .before .before .before .args .n) (c .before .before .before .before .before .before .before .before .args .was) (c .before .before .before .before .before .before .before .before .args .cells .now) (c .before .before .before .before .before .before .before .before .args .sign) (c .before .before .before .before .before .before .before .before .args .v) (c .before .before .before .before .before .before .if1 .left) (c .before .before .before .before .before .if2 .left) (c .before .before .before .put .ensures) (c .if3 .left)
 

@@ -1,10 +1,6 @@
 use borrow.Author.Needs.{needs}
 use Rattle.cursor.proofs.count_node.Statement.{statement}
 use Rattle.cursor.proofs.count_node.Tie as tie
-use Rattle.cursor.proofs.count_node.Reads as reads
-use Rattle.cursor.proofs.count_node.Lts as lts
-use Rattle.cursor.proofs.count_columns.Reads as count-columns-reads
-use Rattle.shape.proofs.groups_in.Reads as groups-in-reads
 use native.Mathlib.Omega.{arith}
 use Rattle.cursor.proofs.Counts.{Summing, summing-none, summing-more, summing-all, node-count}
 use Rattle.sheet.specs.Sheet.{tableIn}
@@ -20,35 +16,27 @@ Inv-loop ws ix r n e k₀ g₀ k g = Summing (columnsCount (source (tableIn ws))
 abbrev μ-loop : tie.MeasureT-loop
 μ-loop ws ix r n e k₀ g₀ k g = e - g
 
--- src/lib.rt:169:9
 groups-in-requires : tie.Need-groups-in-requires Inv-loop μ-loop
 groups-in-requires c κs = search needs
 
--- src/lib.rt:172:5
 loop-holds : tie.Need-loop-holds Inv-loop μ-loop
 loop-holds c = summing-none (columnsCount (source (tableIn (c .before .before .before .args .ws .now))) (c .before .before .before .args .r) (c .before .before .before .args .n)) 131072 (c .groups-in .result)
 
--- src/lib.rt:173:14
 count-columns-requires : tie.Need-count-columns-requires Inv-loop μ-loop
 count-columns-requires c κs = record { indexed = c .before .before .before .before .before .pre .0; rule = c .before .before .before .before .before .pre .1; there = c .before .before .before .before .before .pre .2; group = omega (arith, c .loop-test .taken, c .before .before .groups-in .ensures .0) }
 
--- src/lib.rt:173:9
 add-k : tie.Need-add-k Inv-loop μ-loop
 add-k c = omega (arith, c .before .before .loop .inv .most, c .before .loop-test .taken, c .before .before .before .groups-in .ensures .1, c .count-columns .ensures .1)
 
--- src/lib.rt:174:9
 add-g : tie.Need-add-g Inv-loop μ-loop
 add-g c = omega (arith, c .before .loop-test .taken, c .before .before .before .groups-in .ensures .1)
 
--- src/lib.rt:172:5
 loop-less : tie.Need-loop-less Inv-loop μ-loop
 loop-less c = omega (arith, c .before .loop-test .taken)
 
--- src/lib.rt:172:5
 loop-again : tie.Need-loop-again Inv-loop μ-loop
 loop-again c = summing-more (c .before .before .loop .inv) (c .before .loop-test .taken) (c .count-columns .ensures .0) (c .count-columns .ensures .1)
 
--- src/lib.rt:165:1
 returns : tie.Need-returns Inv-loop μ-loop
 returns c = (summing-all (c .before .loop .inv) (c .loop-test .left) ∙ ap (sumTo (columnsCount (source (tableIn (c .before .before .before .before .before .args .ws .now))) (c .before .before .before .before .before .args .r) (c .before .before .before .before .before .args .n))) (c .before .before .groups-in .ensures .0) ∙ node-count (source (tableIn (c .before .before .before .before .before .args .ws .now))) (c .before .before .before .before .before .args .r) (c .before .before .before .before .before .args .n) (c .before .before .before .before .before .pre .2), omega (arith, c .before .loop .inv .most, c .before .loop .inv .at, c .before .before .groups-in .ensures .1))
 

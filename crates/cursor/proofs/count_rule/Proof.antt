@@ -1,10 +1,6 @@
 use borrow.Author.Needs.{needs}
 use Rattle.cursor.proofs.count_rule.Statement.{statement}
 use Rattle.cursor.proofs.count_rule.Tie as tie
-use Rattle.cursor.proofs.count_rule.Reads as reads
-use Rattle.cursor.proofs.count_rule.Lts as lts
-use Rattle.cursor.proofs.count_node.Reads as count-node-reads
-use Rattle.shape.proofs.nodes_in.Reads as nodes-in-reads
 use native.Mathlib.Omega.{arith}
 use Rattle.cursor.proofs.Counts.{Summing, summing-none, summing-more, summing-all}
 use Rattle.sheet.specs.Sheet.{tableIn}
@@ -19,35 +15,27 @@ Inv-loop ws ix r e k₀ n₀ k n = Summing (countAt (source (tableIn ws)) r) 917
 abbrev μ-loop : tie.MeasureT-loop
 μ-loop ws ix r e k₀ n₀ k n = e - n
 
--- src/lib.rt:183:9
 nodes-in-requires : tie.Need-nodes-in-requires Inv-loop μ-loop
 nodes-in-requires c κs = search needs
 
--- src/lib.rt:186:5
 loop-holds : tie.Need-loop-holds Inv-loop μ-loop
 loop-holds c = summing-none (countAt (source (tableIn (c .before .before .before .args .ws .now))) (c .before .before .before .args .r)) 917504 (c .nodes-in .result)
 
--- src/lib.rt:187:14
 count-node-requires : tie.Need-count-node-requires Inv-loop μ-loop
 count-node-requires c κs = (c .before .before .before .before .before .pre .0, c .before .before .before .before .before .pre .1, omega (arith, c .loop-test .taken, c .before .before .nodes-in .ensures .0))
 
--- src/lib.rt:187:9
 add-k : tie.Need-add-k Inv-loop μ-loop
 add-k c = omega (arith, c .before .before .loop .inv .most, c .before .loop-test .taken, c .before .before .before .nodes-in .ensures .1, c .count-node .ensures .1)
 
--- src/lib.rt:188:9
 add-n : tie.Need-add-n Inv-loop μ-loop
 add-n c = omega (arith, c .before .loop-test .taken, c .before .before .before .nodes-in .ensures .1)
 
--- src/lib.rt:186:5
 loop-less : tie.Need-loop-less Inv-loop μ-loop
 loop-less c = omega (arith, c .before .loop-test .taken)
 
--- src/lib.rt:186:5
 loop-again : tie.Need-loop-again Inv-loop μ-loop
 loop-again c = summing-more (c .before .before .loop .inv) (c .before .loop-test .taken) (c .count-node .ensures .0) (c .count-node .ensures .1)
 
--- src/lib.rt:179:1
 returns : tie.Need-returns Inv-loop μ-loop
 returns c = (summing-all (c .before .loop .inv) (c .loop-test .left) ∙ ap (sumTo (countAt (source (tableIn (c .before .before .before .before .before .args .ws .now))) (c .before .before .before .before .before .args .r))) (c .before .before .nodes-in .ensures .0), omega (arith, c .before .loop .inv .most, c .before .loop .inv .at, c .before .before .nodes-in .ensures .1))
 

@@ -1,34 +1,24 @@
 use borrow.Author.Needs.{needs}
 use Rattle.encoding.proofs.check.Statement.{statement}
 use Rattle.encoding.proofs.check.Tie as tie
-use Rattle.encoding.proofs.check.Reads as reads
-use Rattle.encoding.proofs.check.Lts as lts
-use Rattle.encoding.proofs.count_clauses.Reads as count-clauses-reads
-use Rattle.questions.proofs.prepare.Reads as prepare-reads
 use Rattle.encoding.proofs.Answers.{check-unmet, check-met}
 use lib.Dec.{lit≤}
 
--- src/lib.rt:97:27
 slice-aggregate-prepare : tie.Need-slice-aggregate-prepare
 slice-aggregate-prepare c = search needs
 
--- src/lib.rt:97:9
 prepare-requires : tie.Need-prepare-requires
 prepare-requires c κs = lit≤ tt
 
--- src/lib.rt:99:9
 returns : tie.Need-returns
 returns c = check-unmet (c .before .before .before .before .before .before .args .file .now) (c .before .before .before .prepare .ensures) (c .if1 .taken)
 
--- src/lib.rt:101:59
 slice-aggregate-count-clauses : tie.Need-slice-aggregate-count-clauses
 slice-aggregate-count-clauses c = search needs
 
--- src/lib.rt:101:45
 count-clauses-requires : tie.Need-count-clauses-requires
 count-clauses-requires c κs = c .before .before .before .before .prepare .ensures .accepted (c .before .if1 .left)
 
--- src/lib.rt:93:1
 returns-2 : tie.Need-returns-2
 returns-2 c = check-met (c .before .before .before .before .before .before .before .before .args .file .now) (c .before .before .before .before .before .prepare .ensures) (c .before .before .if1 .left) (c .count-clauses .ensures)
 

@@ -1,46 +1,33 @@
 use borrow.Author.Needs.{needs}
 use Rattle.encoding.proofs.write_text.Statement.{statement}
 use Rattle.encoding.proofs.write_text.Tie as tie
-use Rattle.encoding.proofs.write_text.Reads as reads
-use Rattle.encoding.proofs.write_text.Lts as lts
-use Rattle.questions.proofs.prepare.Reads as prepare-reads
-use Rattle.encoding.proofs.write_lines.Reads as write-lines-reads
 use Rattle.encoding.proofs.Answers.{text-short, short-tree, short-text, text-unmet, text-met}
 use lib.Dec.{lit≤}
 
--- src/lib.rt:161:9
 returns : tie.Need-returns
 returns c = text-short (c .before .before .before .before .args .file .now) (c .before .before .before .before .args .tree .now) (c .before .before .before .before .args .line) (c .before .before .before .before .args .text .now) (short-tree (c .before .before .before .before .args .file .now) (c .before .before .before .before .args .tree .now) (c .before .before .before .before .args .line) (c .before .before .before .before .args .text .now) (c .if1 .taken))
 
--- src/lib.rt:164:9
 returns-2 : tie.Need-returns-2
 returns-2 c = text-short (c .before .before .before .before .before .args .file .now) (c .before .before .before .before .before .args .tree .now) (c .before .before .before .before .before .args .line) (c .before .before .before .before .before .args .text .now) (short-text (c .before .before .before .before .before .args .file .now) (c .before .before .before .before .before .args .tree .now) (c .before .before .before .before .before .args .line) (c .before .before .before .before .before .args .text .now) (c .if2 .taken))
 
--- src/lib.rt:167:27
 slice-aggregate-prepare : tie.Need-slice-aggregate-prepare
 slice-aggregate-prepare c = search needs
 
--- src/lib.rt:167:9
 prepare-requires : tie.Need-prepare-requires
 prepare-requires c κs = lit≤ tt
 
--- src/lib.rt:169:9
 returns-3 : tie.Need-returns-3
 returns-3 c = text-unmet (c .before .before .before .before .before .before .before .before .before .before .args .file .now) (c .before .before .before .before .before .before .before .before .before .before .args .tree .now) (c .before .before .before .before .before .before .before .before .before .before .args .line) (c .before .before .before .before .before .before .before .before .before .before .args .text .now) (c .before .before .before .before .before .before .if1 .left) (c .before .before .before .before .before .if2 .left) (c .before .before .before .prepare .ensures) (c .if3 .taken)
 
--- src/lib.rt:171:17
 slice-aggregate-write-lines : tie.Need-slice-aggregate-write-lines
 slice-aggregate-write-lines c = search needs
 
--- src/lib.rt:171:5
 write-lines-requires : tie.Need-write-lines-requires
 write-lines-requires c κs = (c .before .before .before .before .before .prepare .ensures .accepted (c .before .before .if3 .left), c .before .before .before .before .before .prepare .ensures .variables (c .before .before .if3 .left), c .before .before .before .before .before .before .before .before .if1 .left)
 
--- src/lib.rt:157:1
 same-length : tie.Need-same-length
 same-length c = search needs
 
--- src/lib.rt:157:1
 returns-4 : tie.Need-returns-4
 returns-4 c = text-met (c .before .before .before .before .before .before .before .before .before .before .before .before .before .before .before .args .file .now) (c .before .before .before .before .before .before .before .before .before .before .before .before .before .before .before .args .tree .now) (c .before .before .before .before .before .before .before .before .before .before .before .before .before .before .before .args .line) (c .before .before .before .before .before .before .before .before .before .before .before .before .before .before .before .args .text .now) (c .before .before .before .before .before .before .before .before .before .before .before .if1 .left) (c .before .before .before .before .before .before .before .before .before .before .if2 .left) (c .before .before .before .before .before .before .before .before .prepare .ensures) (c .before .before .before .before .before .if3 .left) (c .before .before .write-lines .ensures)
 

@@ -17,35 +17,27 @@ Inv-loop s a b i₀ i = Left (λ p. all isName (split comma p)) s a b i
 abbrev μ-loop : tie.MeasureT-loop
 μ-loop s a b i₀ i = b - i
 
--- src/lib.rt:102:5
 loop-holds : tie.Need-loop-holds Inv-loop μ-loop
 loop-holds c = left-first (c .before .pre .0)
 
--- src/lib.rt:103:13
 cut-requires : tie.Need-cut-requires Inv-loop μ-loop
 cut-requires c κs = (c .loop .inv .high, c .before .before .pre .1)
 
--- src/lib.rt:104:13
 is-name-requires : tie.Need-is-name-requires Inv-loop μ-loop
 is-name-requires c κs = (c .cut .ensures .low, le-trans (c .cut .ensures .high) (c .before .before .before .pre .1))
 
--- src/lib.rt:105:13
 returns : tie.Need-returns Inv-loop μ-loop
 returns c = left-done (c .before .before .before .loop .inv) (parts-out isName (c .before .before .cut .ensures) (c .before .before .before .before .before .pre .1) (said-no (c .before .is-name .ensures) (c .if1 .taken)))
 
--- src/lib.rt:108:13
 returns-2 : tie.Need-returns-2 Inv-loop μ-loop
 returns-2 c = left-done (c .before .before .before .before .loop .inv) (parts-last isName (c .before .before .before .cut .ensures) (c .before .before .before .before .before .before .pre .1) (c .if2 .taken) (said-yes (c .before .before .is-name .ensures) (c .before .if1 .left)))
 
--- src/lib.rt:110:13
 add-i : tie.Need-add-i Inv-loop μ-loop
 add-i c = omega arith
 
--- src/lib.rt:102:5
 loop-less : tie.Need-loop-less Inv-loop μ-loop
 loop-less c = falls (c .before .before .before .cut .ensures .low) (c .before .before .before .cut .ensures .high) (c .if2 .left)
 
--- src/lib.rt:102:5
 loop-again : tie.Need-loop-again Inv-loop μ-loop
 loop-again c = left-next (c .before .before .before .before .loop .inv) (le-next (c .before .before .before .cut .ensures .low)) (ne-lt-one (c .before .before .before .cut .ensures .high) (c .if2 .left)) (parts-more isName (c .before .before .before .cut .ensures) (c .before .before .before .before .before .before .pre .1) (c .if2 .left) (said-yes (c .before .before .is-name .ensures) (c .before .if1 .left)))
 

@@ -14,35 +14,27 @@ Inv-loop s a b i₀ i = Left (all ofName) s a b i
 abbrev μ-loop : tie.MeasureT-loop
 μ-loop s a b i₀ i = b - i
 
--- src/lib.rt:70:5
 loop-holds : tie.Need-loop-holds Inv-loop μ-loop
 loop-holds c = left-first (c .before .pre .0)
 
--- src/lib.rt:71:24
 shared-slice-read-is-of-name : tie.Need-shared-slice-read-is-of-name Inv-loop μ-loop
 shared-slice-read-is-of-name c = search needs
 
--- src/lib.rt:71:13
 is-of-name-requires : tie.Need-is-of-name-requires Inv-loop μ-loop
 is-of-name-requires c κs = search needs
 
--- src/lib.rt:72:13
 returns : tie.Need-returns Inv-loop μ-loop
 returns c = let l = c .before .before .before .before .loop in left-done (l .inv) (all-out ofName _ _ _ (c .before .before .before .loop-test .taken) (c .before .before .before .before .before .before .pre .1) (said-no (c .before .is-of-name .ensures) (c .if1 .taken)))
 
--- src/lib.rt:74:9
 add-i : tie.Need-add-i Inv-loop μ-loop
 add-i c = search needs
 
--- src/lib.rt:70:5
 loop-less : tie.Need-loop-less Inv-loop μ-loop
 loop-less c = search needs
 
--- src/lib.rt:70:5
 loop-again : tie.Need-loop-again Inv-loop μ-loop
 loop-again c = let l = c .before .before .before .before .loop in left-next (l .inv) (omega arith) (omega arith) (all-in ofName _ _ _ (c .before .before .before .loop-test .taken) (c .before .before .before .before .before .before .pre .1) (said-yes (c .before .is-of-name .ensures) (c .if1 .left)))
 
--- src/lib.rt:65:1
 returns-2 : tie.Need-returns-2 Inv-loop μ-loop
 returns-2 c = left-done (c .before .loop .inv) (all-none ofName _ _ _ (left-end (c .before .loop .inv) (c .loop-test .left)))
 

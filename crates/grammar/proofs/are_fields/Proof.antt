@@ -14,47 +14,36 @@ Inv-loop s a b forms i₀ j₀ i j = Fields s forms a b i j
 abbrev μ-loop : tie.MeasureT-loop
 μ-loop s a b forms i₀ j₀ i j = length forms - j
 
--- src/lib.rt:163:5
 loop-holds : tie.Need-loop-holds Inv-loop μ-loop
 loop-holds c = fields-first (c .before .before .pre .0)
 
--- src/lib.rt:164:13
 cut-requires : tie.Need-cut-requires Inv-loop μ-loop
 cut-requires c κs = (c .before .loop .inv .high, c .before .before .before .before .pre .1)
 
--- src/lib.rt:165:30
 shared-slice-read-has-form : tie.Need-shared-slice-read-has-form Inv-loop μ-loop
 shared-slice-read-has-form c = search needs
 
--- src/lib.rt:165:13
 has-form-requires : tie.Need-has-form-requires Inv-loop μ-loop
 has-form-requires c κs = (c .before .cut .ensures .low, le-trans (c .before .cut .ensures .high) (c .before .before .before .before .before .before .pre .1))
 
--- src/lib.rt:166:13
 returns : tie.Need-returns Inv-loop μ-loop
 returns c = fields-out (c .before .before .before .before .before .loop .inv) (c .before .before .before .cut .ensures) (c .before .before .before .before .before .before .before .before .pre .1) (c .before .before .before .before .loop-test .taken) (said-no (c .before .has-form .ensures) (c .if1 .taken))
 
--- src/lib.rt:168:9
 add-j : tie.Need-add-j Inv-loop μ-loop
 add-j c = search needs
 
--- src/lib.rt:170:13
 returns-2 : tie.Need-returns-2 Inv-loop μ-loop
 returns-2 c = fields-last (c .before .before .before .before .before .before .loop .inv) (c .before .before .before .before .cut .ensures) (c .before .before .before .before .before .before .before .before .before .pre .1) (c .before .before .before .before .before .loop-test .taken) (said-yes (c .before .before .has-form .ensures) (c .before .if1 .left)) (c .if2 .taken)
 
--- src/lib.rt:172:13
 add-i : tie.Need-add-i Inv-loop μ-loop
 add-i c = omega arith
 
--- src/lib.rt:163:5
 loop-less : tie.Need-loop-less Inv-loop μ-loop
 loop-less c = search needs
 
--- src/lib.rt:163:5
 loop-again : tie.Need-loop-again Inv-loop μ-loop
 loop-again c = fields-more (c .before .before .before .before .before .before .loop .inv) (c .before .before .before .before .cut .ensures) (c .before .before .before .before .before .before .before .before .before .pre .1) (c .before .before .before .before .before .loop-test .taken) (said-yes (c .before .before .has-form .ensures) (c .before .if1 .left)) (c .if2 .left)
 
--- src/lib.rt:157:1
 returns-3 : tie.Need-returns-3 Inv-loop μ-loop
 returns-3 c = fields-done (c .before .loop .inv) (c .loop-test .left)
 

@@ -14,39 +14,30 @@ Inv-loop s n a₀ a = Left formedLines s 0 (length s) a
 abbrev μ-loop : tie.MeasureT-loop
 μ-loop s n a₀ a = length s - a
 
--- src/lib.rt:207:5
 loop-holds : tie.Need-loop-holds Inv-loop μ-loop
 loop-holds c = lines-first _
 
--- src/lib.rt:208:13
 cut-requires : tie.Need-cut-requires Inv-loop μ-loop
 cut-requires c κs = (c .before .loop .inv .high, le-refl _)
 
--- src/lib.rt:210:13
 returns : tie.Need-returns Inv-loop μ-loop
 returns c = lines-done (c .before .before .before .loop .inv) (lines-end (c .before .cut .ensures) (le-refl _) (c .if1 .taken))
 
--- src/lib.rt:212:13
 is-line-requires : tie.Need-is-line-requires Inv-loop μ-loop
 is-line-requires c κs = (c .before .cut .ensures .low, c .before .cut .ensures .high)
 
--- src/lib.rt:213:13
 returns-2 : tie.Need-returns-2 Inv-loop μ-loop
 returns-2 c = lines-done (c .before .before .before .before .before .loop .inv) (lines-out (c .before .before .before .cut .ensures) (le-refl _) (c .before .before .if1 .left) (said-no (c .before .is-line .ensures) (c .if2 .taken)))
 
--- src/lib.rt:215:13
 add-a : tie.Need-add-a Inv-loop μ-loop
 add-a c = omega arith
 
--- src/lib.rt:207:5
 loop-less : tie.Need-loop-less Inv-loop μ-loop
 loop-less c = falls (c .before .before .before .cut .ensures .low) (c .before .before .before .cut .ensures .high) (c .before .before .if1 .left)
 
--- src/lib.rt:207:5
 loop-again : tie.Need-loop-again Inv-loop μ-loop
 loop-again c = left-next (c .before .before .before .before .before .loop .inv) (le-next (c .before .before .before .cut .ensures .low)) (ne-lt-one (c .before .before .before .cut .ensures .high) (c .before .before .if1 .left)) (lines-more (c .before .before .before .cut .ensures) (le-refl _) (c .before .before .if1 .left) (said-yes (c .before .is-line .ensures) (c .if2 .left)))
 
--- src/lib.rt:202:1
 returns-3 : tie.Need-returns-3 Inv-loop μ-loop
 returns-3 c = lines-done (c .before .loop .inv) (lines-none _ _ _ (left-end (c .before .loop .inv) (c .loop-test .left)))
 

@@ -13,43 +13,33 @@ Inv-loop s a b i₀ k₀ i k = Many s a b i k
 abbrev μ-loop : tie.MeasureT-loop
 μ-loop s a b i₀ k₀ i k = b - i
 
--- src/lib.rt:440:8
 is-hyphen-requires : tie.Need-is-hyphen-requires Inv-loop μ-loop
 is-hyphen-requires c κs = search needs
 
--- src/lib.rt:441:9
 returns : tie.Need-returns Inv-loop μ-loop
 returns c = names-none _ _ (c .before .is-hyphen .ensures) (c .if1 .taken)
 
--- src/lib.rt:445:5
 loop-holds : tie.Need-loop-holds Inv-loop μ-loop
 loop-holds c = many-first (c .before .before .before .pre .0)
 
--- src/lib.rt:446:13
 cut-requires : tie.Need-cut-requires Inv-loop μ-loop
 cut-requires c κs = (c .loop .inv .high, c .before .before .before .before .pre .1)
 
--- src/lib.rt:448:20
 add-result : tie.Need-add-result Inv-loop μ-loop
 add-result c = omega arith
 
--- src/lib.rt:448:13
 returns-2 : tie.Need-returns-2 Inv-loop μ-loop
 returns-2 c = many-done (c .before .before .loop .inv) (c .before .cut .ensures) (c .before .before .before .before .before .before .pre .1) (c .if2 .taken) ∙ names-some _ _ (c .before .before .before .before .is-hyphen .ensures) (c .before .before .before .if1 .left)
 
--- src/lib.rt:450:13
 add-i : tie.Need-add-i Inv-loop μ-loop
 add-i c = omega arith
 
--- src/lib.rt:451:9
 add-k : tie.Need-add-k Inv-loop μ-loop
 add-k c = omega arith
 
--- src/lib.rt:445:5
 loop-less : tie.Need-loop-less Inv-loop μ-loop
 loop-less c = falls (c .before .cut .ensures .low) (c .before .cut .ensures .high) (c .if2 .left)
 
--- src/lib.rt:445:5
 loop-again : tie.Need-loop-again Inv-loop μ-loop
 loop-again c = many-more (c .before .before .loop .inv) (c .before .cut .ensures) (c .before .before .before .before .before .before .pre .1) (c .if2 .left)
 

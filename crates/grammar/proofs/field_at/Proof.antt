@@ -11,39 +11,30 @@ Inv-loop s a b k i₀ j₀ i j = AtTo s a b k i j
 abbrev μ-loop : tie.MeasureT-loop
 μ-loop s a b k i₀ j₀ i j = k - j
 
--- src/lib.rt:423:5
 loop-holds : tie.Need-loop-holds Inv-loop μ-loop
 loop-holds c = at-first (c .before .pre .0)
 
--- src/lib.rt:424:13
 cut-requires : tie.Need-cut-requires Inv-loop μ-loop
 cut-requires c κs = (c .before .loop .inv .high, c .before .before .before .pre .1)
 
--- src/lib.rt:426:13
 returns : tie.Need-returns Inv-loop μ-loop
 returns c = at-none (c .before .before .before .loop .inv) (c .before .cut .ensures) (c .before .before .before .before .before .pre .1) (c .before .before .loop-test .taken) (c .if1 .taken)
 
--- src/lib.rt:428:13
 add-i : tie.Need-add-i Inv-loop μ-loop
 add-i c = omega arith
 
--- src/lib.rt:429:9
 add-j : tie.Need-add-j Inv-loop μ-loop
 add-j c = omega arith
 
--- src/lib.rt:423:5
 loop-less : tie.Need-loop-less Inv-loop μ-loop
 loop-less c = search needs
 
--- src/lib.rt:423:5
 loop-again : tie.Need-loop-again Inv-loop μ-loop
 loop-again c = at-more (c .before .before .before .loop .inv) (c .before .cut .ensures) (c .before .before .before .before .before .pre .1) (c .before .before .loop-test .taken) (c .if1 .left)
 
--- src/lib.rt:431:9
 cut-requires-2 : tie.Need-cut-requires-2 Inv-loop μ-loop
 cut-requires-2 c κs = (c .before .loop .inv .high, c .before .before .before .pre .1)
 
--- src/lib.rt:417:1
 returns-2 : tie.Need-returns-2 Inv-loop μ-loop
 returns-2 c = at-done (c .before .before .loop .inv) (c .cut2 .ensures) (c .before .before .before .before .pre .1) (c .before .loop-test .left)
 

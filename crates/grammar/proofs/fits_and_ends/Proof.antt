@@ -3,23 +3,18 @@ use borrow.Author.Needs.{needs}
 use Rattle.grammar.proofs.fits_and_ends.Statement.{statement}
 use Rattle.grammar.proofs.Files.{ended-long, ended-empty, ended-byte}
 
--- src/lib.rt:226:9
 returns : tie.Need-returns
 returns c = ended-long _ (c .if1 .taken)
 
--- src/lib.rt:229:9
 returns-2 : tie.Need-returns-2
 returns-2 c = ended-empty _ (c .if2 .taken)
 
--- src/lib.rt:231:7
 sub-result : tie.Need-sub-result
 sub-result c = search needs
 
--- src/lib.rt:231:5
 shared-slice-read-result : tie.Need-shared-slice-read-result
 shared-slice-read-result c = search needs
 
--- src/lib.rt:221:1
 returns-3 : tie.Need-returns-3
 returns-3 c = ended-byte _ (c .before .before .if1 .left)
 

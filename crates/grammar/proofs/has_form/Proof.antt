@@ -5,27 +5,21 @@ use mathlib.Core.Path.{_∙_}
 use Prim.Native.Nat.{_-_}
 use Rattle.grammar.proofs.Lines.{form-name, form-list, form-depth}
 
--- src/lib.rt:150:17
 is-name-requires : tie.Need-is-name-requires
 is-name-requires c κs = search needs
 
--- src/lib.rt:151:17
 is-list-requires : tie.Need-is-list-requires
 is-list-requires c κs = search needs
 
--- src/lib.rt:152:14
 is-depth-requires : tie.Need-is-depth-requires
 is-depth-requires c κs = search needs
 
--- src/lib.rt:145:1
 returns : tie.Need-returns
 returns c = c .is-name .ensures ∙ form-name _ _ (c .before .match .keys1)
 
--- src/lib.rt:145:1
 returns-2 : tie.Need-returns-2
 returns-2 c = c .is-list .ensures ∙ form-list _ _ (c .before .match .keys2)
 
--- src/lib.rt:145:1
 returns-3 : tie.Need-returns-3
 returns-3 c = c .is-depth .ensures ∙ form-depth _ _ (c .before .match .rest .0 .1) (c .before .match .rest .1)
 

@@ -5,23 +5,18 @@ use mathlib.Core.Path.{_∙_}
 use Prim.Native.Nat.{_-_}
 use Rattle.grammar.proofs.Names.{depth-not, depth-one}
 
--- src/lib.rt:138:8
 sub-if1 : tie.Need-sub-if1
 sub-if1 c = search needs
 
--- src/lib.rt:139:9
 returns : tie.Need-returns
 returns c = depth-not _ _ _ (c .before .before .pre .1) (c .if1 .taken)
 
--- src/lib.rt:141:17
 shared-slice-read-is-of-depth : tie.Need-shared-slice-read-is-of-depth
 shared-slice-read-is-of-depth c = search needs
 
--- src/lib.rt:141:5
 is-of-depth-requires : tie.Need-is-of-depth-requires
 is-of-depth-requires c κs = search needs
 
--- src/lib.rt:134:1
 returns-2 : tie.Need-returns-2
 returns-2 c = c .is-of-depth .ensures ∙ depth-one _ _ _ (c .before .before .before .before .pre .1) (c .before .before .if1 .left)
 

@@ -3,19 +3,15 @@ use borrow.Author.Needs.{needs}
 use Rattle.grammar.proofs.is_hyphen.Statement.{statement}
 use Rattle.grammar.proofs.Names.{hyphen-not, hyphen-one}
 
--- src/lib.rt:118:8
 sub-if1 : tie.Need-sub-if1
 sub-if1 c = search needs
 
--- src/lib.rt:119:9
 returns : tie.Need-returns
 returns c = hyphen-not _ _ _ (c .before .pre .1) (c .if1 .taken)
 
--- src/lib.rt:121:5
 shared-slice-read-result : tie.Need-shared-slice-read-result
 shared-slice-read-result c = search needs
 
--- src/lib.rt:114:1
 returns-2 : tie.Need-returns-2
 returns-2 c = hyphen-one _ _ _ (c .before .before .pre .1) (c .before .if1 .left)
 

@@ -5,19 +5,15 @@ use mathlib.Core.Path.{_∙_}
 use Prim.Native.Nat.{_-_}
 use Rattle.grammar.proofs.Names.{list-none, list-names}
 
--- src/lib.rt:128:8
 is-hyphen-requires : tie.Need-is-hyphen-requires
 is-hyphen-requires c κs = search needs
 
--- src/lib.rt:129:9
 returns : tie.Need-returns
 returns c = list-none _ _ (c .before .is-hyphen .ensures) (c .if1 .taken)
 
--- src/lib.rt:131:5
 all-names-requires : tie.Need-all-names-requires
 all-names-requires c κs = search needs
 
--- src/lib.rt:124:1
 returns-2 : tie.Need-returns-2
 returns-2 c = c .all-names .ensures ∙ list-names _ _ (c .before .before .is-hyphen .ensures) (c .before .if1 .left)
 

@@ -2,15 +2,12 @@ use Rattle.grammar.proofs.is_lower.Tie as tie
 use Rattle.grammar.proofs.is_lower.Statement.{statement}
 use Rattle.grammar.proofs.Bytes.{lower-in, lower-under, lower-over}
 
--- src/lib.rt:18:1
 returns : tie.Need-returns
 returns c = lower-in _ (c .before .if1 .left) (c .if2 .taken)
 
--- src/lib.rt:18:1
 returns-2 : tie.Need-returns-2
 returns-2 c = lower-under _ (c .if1 .taken)
 
--- src/lib.rt:18:1
 returns-3 : tie.Need-returns-3
 returns-3 c = lower-over _ (c .if2 .left)
 

@@ -2,15 +2,12 @@ use Rattle.grammar.proofs.is_of_depth.Tie as tie
 use Rattle.grammar.proofs.is_of_depth.Statement.{statement}
 use Rattle.grammar.proofs.Bytes.{depth-in, depth-under, depth-over}
 
--- src/lib.rt:40:1
 returns : tie.Need-returns
 returns c = depth-in _ (c .before .if1 .left) (c .if2 .taken)
 
--- src/lib.rt:40:1
 returns-2 : tie.Need-returns-2
 returns-2 c = depth-under _ (c .if1 .taken)
 
--- src/lib.rt:40:1
 returns-3 : tie.Need-returns-3
 returns-3 c = depth-over _ (c .if2 .left)
 

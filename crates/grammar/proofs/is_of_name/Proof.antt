@@ -2,27 +2,21 @@ use Rattle.grammar.proofs.is_of_name.Tie as tie
 use Rattle.grammar.proofs.is_of_name.Statement.{statement}
 use Rattle.grammar.proofs.Bytes.{of-hyphen, of-letter, of-digit, of-low, of-middle, of-high}
 
--- src/lib.rt:28:1
 returns : tie.Need-returns
 returns c = of-hyphen _ (c .match .keys1)
 
--- src/lib.rt:28:1
 returns-2 : tie.Need-returns-2
 returns-2 c = of-digit _ (c .before .if1 .left) (c .if2 .taken)
 
--- src/lib.rt:28:1
 returns-3 : tie.Need-returns-3
 returns-3 c = of-letter _ (c .before .if3 .left) (c .if4 .taken)
 
--- src/lib.rt:28:1
 returns-4 : tie.Need-returns-4
 returns-4 c = of-low _ (c .before .match .rest .1) (c .if1 .taken)
 
--- src/lib.rt:28:1
 returns-5 : tie.Need-returns-5
 returns-5 c = of-middle _ (c .before .if2 .left) (c .if3 .taken)
 
--- src/lib.rt:28:1
 returns-6 : tie.Need-returns-6
 returns-6 c = of-high _ (c .if4 .left)
 

@@ -4,15 +4,12 @@ use Rattle.grammar.proofs.line_begins.Statement.{statement}
 use Rattle.grammar.proofs.Files.{begins-none, begins-byte}
 use Rattle.lists.proofs.Order.{ne-lt}
 
--- src/lib.rt:241:9
 returns : tie.Need-returns
 returns c = begins-none _ _ _ _ (c .if1 .taken)
 
--- src/lib.rt:243:5
 shared-slice-read-result : tie.Need-shared-slice-read-result
 shared-slice-read-result c = search needs
 
--- src/lib.rt:236:1
 returns-2 : tie.Need-returns-2
 returns-2 c = begins-byte _ _ _ _ (ne-lt (c .before .before .pre .0) (c .before .if1 .left)) (c .before .before .pre .1)
 

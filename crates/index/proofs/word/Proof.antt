@@ -2,22 +2,16 @@ use Rattle.index.proofs.Known.{past-last}
 use borrow.Author.Needs.{needs}
 use Rattle.index.proofs.word.Statement.{statement}
 use Rattle.index.proofs.word.Tie as tie
-use Rattle.index.proofs.word.Reads as reads
-use Rattle.index.proofs.word.Lts as lts
 
--- src/lib.rt:11:23
 mul-result : tie.Need-mul-result
 mul-result c = search needs
 
--- src/lib.rt:11:23
 shared-slice-read-result : tie.Need-shared-slice-read-result
 shared-slice-read-result c = search needs
 
--- src/lib.rt:8:1
 returns : tie.Need-returns
 returns c = search needs
 
--- src/lib.rt:8:1
 returns-2 : tie.Need-returns-2
 returns-2 c = let a = c .before .args in past-last (a .ix .now) (a .i) (c .if1 .left)
 

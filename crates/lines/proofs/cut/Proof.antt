@@ -31,31 +31,24 @@ Inv-loop s a b c i₀ i = Upto c s a b i
 abbrev μ-loop : tie.MeasureT-loop
 μ-loop s a b c i₀ i = b - i
 
--- src/lib.rt:55:5
 loop-holds : tie.Need-loop-holds Inv-loop μ-loop
 loop-holds c = record { low = omega arith; high = omega arith; sum = omega arith }
 
--- src/lib.rt:56:12
 shared-slice-read-if1 : tie.Need-shared-slice-read-if1 Inv-loop μ-loop
 shared-slice-read-if1 c = search needs
 
--- src/lib.rt:57:13
 returns : tie.Need-returns Inv-loop μ-loop
 returns c = stop (c .before .before .before .loop .inv) (before-hit _ _ _ _ (c .before .before .loop-test .taken) (c .before .before .before .before .pre .1) (c .if1 .taken))
 
--- src/lib.rt:59:9
 add-i : tie.Need-add-i Inv-loop μ-loop
 add-i c = search needs
 
--- src/lib.rt:55:5
 loop-less : tie.Need-loop-less Inv-loop μ-loop
 loop-less c = search needs
 
--- src/lib.rt:55:5
 loop-again : tie.Need-loop-again Inv-loop μ-loop
 loop-again c = more (c .before .before .before .loop .inv) (c .before .before .loop-test .taken) (c .before .before .before .before .pre .1) (c .if1 .left)
 
--- src/lib.rt:50:1
 returns-2 : tie.Need-returns-2 Inv-loop μ-loop
 returns-2 c = let u = c .before .loop .inv in stop u (end u (omega arith))
 

@@ -13,55 +13,42 @@ Inv-loop s start size lo hi i₀ i = News (linesFrom s 0) lo hi i
 abbrev μ-loop : tie.MeasureT-loop
 μ-loop s start size lo hi i₀ i = hi - i
 
--- src/lib.rt:399:5
 loop-holds : tie.Need-loop-holds Inv-loop μ-loop
 loop-holds c = news-first (c .before .pre .0)
 
--- src/lib.rt:400:17
 mul-p : tie.Need-mul-p Inv-loop μ-loop
 mul-p c = search needs
 
--- src/lib.rt:400:17
 element-copy-out-p : tie.Need-element-copy-out-p Inv-loop μ-loop
 element-copy-out-p c = search needs
 
--- src/lib.rt:401:21
 mul-e : tie.Need-mul-e Inv-loop μ-loop
 mul-e c = search needs
 
--- src/lib.rt:401:21
 element-copy-out-e : tie.Need-element-copy-out-e Inv-loop μ-loop
 element-copy-out-e c = search needs
 
--- src/lib.rt:401:17
 add-e : tie.Need-add-e Inv-loop μ-loop
 add-e c = let h = (c .before .before .before .before .before .pre .3 .at _ (c .before .before .loop-test .taken)) .high in omega arith
 
--- src/lib.rt:402:17
 add-j : tie.Need-add-j Inv-loop μ-loop
 add-j c = search needs
 
--- src/lib.rt:403:12
 find-requires : tie.Need-find-requires Inv-loop μ-loop
 find-requires c κs = (next-le (c .before .before .loop-test .taken), c .before .before .before .before .before .pre .1, c .before .before .before .before .before .pre .2, le-sum _ _, (c .before .before .before .before .before .pre .3 .at _ (c .before .before .loop-test .taken)) .high, c .before .before .before .before .before .pre .3)
 
--- src/lib.rt:403:48
 sub-if1 : tie.Need-sub-if1 Inv-loop μ-loop
 sub-if1 c = search needs
 
--- src/lib.rt:404:13
 returns : tie.Need-returns Inv-loop μ-loop
 returns c = news-out (c .before .before .before .before .before .loop .inv) (c .before .before .before .before .loop-test .taken) (c .before .before .before .before .before .before .before .pre .2) (c .before .before .before .before .before .before .before .pre .3 .at _ (c .before .before .before .before .loop-test .taken)) (c .before .find .ensures) (c .if1 .taken)
 
--- src/lib.rt:399:5
 loop-less : tie.Need-loop-less Inv-loop μ-loop
 loop-less c = search needs
 
--- src/lib.rt:399:5
 loop-again : tie.Need-loop-again Inv-loop μ-loop
 loop-again c = news-more (c .before .before .before .before .before .loop .inv) (c .before .before .before .before .loop-test .taken) (c .before .before .before .before .before .before .before .pre .2) (c .before .before .before .before .before .before .before .pre .3 .at _ (c .before .before .before .before .loop-test .taken)) (c .before .find .ensures) (c .if1 .left)
 
--- src/lib.rt:394:1
 returns-2 : tie.Need-returns-2 Inv-loop μ-loop
 returns-2 c = news-done (c .before .loop .inv) (c .loop-test .left)
 

@@ -15,43 +15,33 @@ Inv-loop s at n i₀ a₀ i a = On s at i a × Each short (linesFrom s at) n i
 abbrev μ-loop : tie.MeasureT-loop
 μ-loop s at n i₀ a₀ i a = n - i
 
--- src/lib.rt:588:5
 loop-holds : tie.Need-loop-holds Inv-loop μ-loop
 loop-holds c = (on-first (c .before .pre .0), each-first)
 
--- src/lib.rt:589:13
 cut-requires : tie.Need-cut-requires Inv-loop μ-loop
 cut-requires c κs = (c .before .loop .inv .0 .high, le-refl _)
 
--- src/lib.rt:590:13
 field-at-requires : tie.Need-field-at-requires Inv-loop μ-loop
 field-at-requires c κs = (c .cut .ensures .low, c .cut .ensures .high)
 
--- src/lib.rt:591:12
 count-names-requires : tie.Need-count-names-requires Inv-loop μ-loop
 count-names-requires c κs = (c .field-at .ensures .order, le-trans (c .field-at .ensures .high) (c .before .cut .ensures .high))
 
--- src/lib.rt:592:13
 returns : tie.Need-returns Inv-loop μ-loop
 returns c = each-out (c .before .before .before .before .before .loop .inv .1) (c .before .before .before .before .loop-test .taken) (c .before .before .before .before .before .before .before .pre .1) (short-no _ _ _ (on-is (c .before .before .before .before .before .loop .inv .0) (c .before .before .before .cut .ensures) (lt-le (c .before .before .before .before .loop-test .taken) (c .before .before .before .before .before .before .before .pre .1))) (body-size _ (c .before .before .field-at .ensures) (c .before .count-names .ensures)) (c .if1 .taken))
 
--- src/lib.rt:594:9
 add-i : tie.Need-add-i Inv-loop μ-loop
 add-i c = omega arith
 
--- src/lib.rt:595:13
 add-a : tie.Need-add-a Inv-loop μ-loop
 add-a c = let h = on-line (c .before .before .before .before .before .loop .inv .0) (c .before .before .before .cut .ensures) (lt-le (c .before .before .before .before .loop-test .taken) (c .before .before .before .before .before .before .before .pre .1)) in omega arith
 
--- src/lib.rt:588:5
 loop-less : tie.Need-loop-less Inv-loop μ-loop
 loop-less c = search needs
 
--- src/lib.rt:588:5
 loop-again : tie.Need-loop-again Inv-loop μ-loop
 loop-again c = (on-more (c .before .before .before .before .before .loop .inv .0) (c .before .before .before .cut .ensures) (lt-le (c .before .before .before .before .loop-test .taken) (c .before .before .before .before .before .before .before .pre .1)), each-more (c .before .before .before .before .before .loop .inv .1) (c .before .before .before .before .loop-test .taken) (c .before .before .before .before .before .before .before .pre .1) (short-yes _ _ _ (on-is (c .before .before .before .before .before .loop .inv .0) (c .before .before .before .cut .ensures) (lt-le (c .before .before .before .before .loop-test .taken) (c .before .before .before .before .before .before .before .pre .1))) (body-size _ (c .before .before .field-at .ensures) (c .before .count-names .ensures)) (c .if1 .left)))
 
--- src/lib.rt:582:1
 returns-2 : tie.Need-returns-2 Inv-loop μ-loop
 returns-2 c = each-done (c .before .loop .inv .1) (c .loop-test .left)
 

@@ -14,43 +14,33 @@ Inv-loop s at c n a₀ k₀ a k = RunTo c s at k a
 abbrev μ-loop : tie.MeasureT-loop
 μ-loop s at c n a₀ k₀ a k = length s - a
 
--- src/lib.rt:259:5
 loop-holds : tie.Need-loop-holds Inv-loop μ-loop
 loop-holds c = run-first (c .before .pre)
 
--- src/lib.rt:260:13
 cut-requires : tie.Need-cut-requires Inv-loop μ-loop
 cut-requires c κs = (c .before .loop .inv .high, le-refl _)
 
--- src/lib.rt:262:13
 returns : tie.Need-returns Inv-loop μ-loop
 returns c = run-end (c .before .before .before .loop .inv) (from-last (c .before .cut .ensures) (c .if1 .taken))
 
--- src/lib.rt:264:13
 line-begins-requires : tie.Need-line-begins-requires Inv-loop μ-loop
 line-begins-requires c κs = (c .before .cut .ensures .low, c .before .cut .ensures .high)
 
--- src/lib.rt:265:13
 returns-2 : tie.Need-returns-2 Inv-loop μ-loop
 returns-2 c = run-stop (c .before .before .before .before .before .loop .inv) (c .before .before .before .cut .ensures) (c .before .before .if1 .left) (said-no (c .before .line-begins .ensures) (c .if2 .taken))
 
--- src/lib.rt:267:9
 add-k : tie.Need-add-k Inv-loop μ-loop
 add-k c = omega arith
 
--- src/lib.rt:268:13
 add-a : tie.Need-add-a Inv-loop μ-loop
 add-a c = omega arith
 
--- src/lib.rt:259:5
 loop-less : tie.Need-loop-less Inv-loop μ-loop
 loop-less c = falls (c .before .before .before .cut .ensures .low) (c .before .before .before .cut .ensures .high) (c .before .before .if1 .left)
 
--- src/lib.rt:259:5
 loop-again : tie.Need-loop-again Inv-loop μ-loop
 loop-again c = run-more (c .before .before .before .before .before .loop .inv) (c .before .before .before .cut .ensures) (c .before .before .if1 .left) (said-yes (c .before .line-begins .ensures) (c .if2 .left))
 
--- src/lib.rt:252:1
 returns-3 : tie.Need-returns-3 Inv-loop μ-loop
 returns-3 c = run-end (c .before .loop .inv) (from-end _ _ (le-antisym (c .before .loop .inv .high) (c .loop-test .left)))
 

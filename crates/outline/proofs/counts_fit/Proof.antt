@@ -2,19 +2,15 @@ use Rattle.outline.proofs.counts_fit.Tie as tie
 use Rattle.outline.proofs.counts_fit.Statement.{statement}
 use Rattle.outline.proofs.Questions.{counts-facts, counts-steps, counts-jobs, counts-rest}
 
--- src/lib.rt:113:9
 returns : tie.Need-returns
 returns c = let a = c .before .args in counts-facts (a .facts) (a .steps) (a .jobs) (a .methods) (c .if1 .taken)
 
--- src/lib.rt:116:9
 returns-2 : tie.Need-returns-2
 returns-2 c = let a = c .before .before .args in counts-steps (a .facts) (a .steps) (a .jobs) (a .methods) (c .before .if1 .left) (c .if2 .taken)
 
--- src/lib.rt:119:9
 returns-3 : tie.Need-returns-3
 returns-3 c = let a = c .before .before .before .args in counts-jobs (a .facts) (a .steps) (a .jobs) (a .methods) (c .before .before .if1 .left) (c .before .if2 .left) (c .if3 .taken)
 
--- src/lib.rt:109:1
 returns-4 : tie.Need-returns-4
 returns-4 c = let a = c .before .before .before .args in counts-rest (a .facts) (a .steps) (a .jobs) (a .methods) (c .before .before .if1 .left) (c .before .if2 .left) (c .if3 .left)
 

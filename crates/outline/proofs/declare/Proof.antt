@@ -13,51 +13,39 @@ Inv-loop s n start₀ size₀ i₀ a₀ start size i a = (i ≤ n) × Filled s s
 abbrev μ-loop : tie.MeasureT-loop
 μ-loop s n start₀ size₀ i₀ a₀ start size i a = n - i
 
--- src/lib.rt:354:5
 loop-holds : tie.Need-loop-holds Inv-loop μ-loop
 loop-holds c = (zero-least _, filled-first refl refl)
 
--- src/lib.rt:355:13
 cut-requires : tie.Need-cut-requires Inv-loop μ-loop
 cut-requires c κs = (c .before .loop .inv .1 .high, le-refl _)
 
--- src/lib.rt:356:13
 name-of-requires : tie.Need-name-of-requires Inv-loop μ-loop
 name-of-requires c κs = (c .cut .ensures .low, filled-line (c .before .before .loop .inv .1) (c .cut .ensures) (lt-le (c .before .loop-test .taken) (c .before .before .before .before .pre .1)))
 
--- src/lib.rt:357:9
 mul-start : tie.Need-mul-start Inv-loop μ-loop
 mul-start c = search needs
 
--- src/lib.rt:357:9
 array-write-start : tie.Need-array-write-start Inv-loop μ-loop
 array-write-start c = search needs
 
--- src/lib.rt:358:9
 mul-size : tie.Need-mul-size Inv-loop μ-loop
 mul-size c = search needs
 
--- src/lib.rt:358:9
 array-write-size : tie.Need-array-write-size Inv-loop μ-loop
 array-write-size c = search needs
 
--- src/lib.rt:359:9
 add-i : tie.Need-add-i Inv-loop μ-loop
 add-i c = omega arith
 
--- src/lib.rt:360:13
 add-a : tie.Need-add-a Inv-loop μ-loop
 add-a c = let h = filled-line (c .before .before .before .loop .inv .1) (c .before .cut .ensures) (lt-le (c .before .before .loop-test .taken) (c .before .before .before .before .before .pre .1)) in omega arith
 
--- src/lib.rt:354:5
 loop-less : tie.Need-loop-less Inv-loop μ-loop
 loop-less c = search needs
 
--- src/lib.rt:354:5
 loop-again : tie.Need-loop-again Inv-loop μ-loop
 loop-again c = (next-le (c .before .before .loop-test .taken), filled-more (c .before .before .before .loop .inv .1) (c .before .cut .ensures) (lt-le (c .before .before .loop-test .taken) (c .before .before .before .before .before .pre .1)) (lt-le (c .before .before .loop-test .taken) (c .before .before .before .before .before .pre .0)) (c .name-of .ensures))
 
--- src/lib.rt:346:1
 returns : tie.Need-returns Inv-loop μ-loop
 returns c = held-is (le-antisym (c .before .loop .inv .0) (c .loop-test .left)) (c .before .loop .inv .1 .held)
 

@@ -15,59 +15,45 @@ Inv-loop s start size lo hi a b i₀ i = Passed s (linesFrom s 0) lo hi (slice a
 abbrev μ-loop : tie.MeasureT-loop
 μ-loop s start size lo hi a b i₀ i = hi - i
 
--- src/lib.rt:372:5
 loop-holds : tie.Need-loop-holds Inv-loop μ-loop
 loop-holds c = passed-first (c .before .pre .0)
 
--- src/lib.rt:373:17
 mul-p : tie.Need-mul-p Inv-loop μ-loop
 mul-p c = search needs
 
--- src/lib.rt:373:17
 element-copy-out-p : tie.Need-element-copy-out-p Inv-loop μ-loop
 element-copy-out-p c = search needs
 
--- src/lib.rt:374:21
 mul-e : tie.Need-mul-e Inv-loop μ-loop
 mul-e c = search needs
 
--- src/lib.rt:374:21
 element-copy-out-e : tie.Need-element-copy-out-e Inv-loop μ-loop
 element-copy-out-e c = search needs
 
--- src/lib.rt:374:17
 add-e : tie.Need-add-e Inv-loop μ-loop
 add-e c = let h = c .before .before .before .before .before .pre .5 .at _ (c .before .before .loop-test .taken) .high in omega arith
 
--- src/lib.rt:375:12
 is-same-requires : tie.Need-is-same-requires Inv-loop μ-loop
 is-same-requires c κs = (c .before .before .before .before .before .pre .3, c .before .before .before .before .before .pre .4, le-sum _ _, c .before .before .before .before .before .pre .5 .at _ (c .before .before .loop-test .taken) .high)
 
--- src/lib.rt:376:20
 sub-result : tie.Need-sub-result Inv-loop μ-loop
 sub-result c = search needs
 
--- src/lib.rt:376:13
 returns : tie.Need-returns Inv-loop μ-loop
 returns c = passed-hit (c .before .before .before .before .before .loop .inv) (c .before .before .before .before .loop-test .taken) (c .before .before .before .before .before .before .before .pre .2) (c .before .before .before .before .before .before .before .pre .5 .at _ (c .before .before .before .before .loop-test .taken)) (sym (c .before .is-same .ensures) ∙ c .if1 .taken)
 
--- src/lib.rt:378:9
 add-i : tie.Need-add-i Inv-loop μ-loop
 add-i c = search needs
 
--- src/lib.rt:372:5
 loop-less : tie.Need-loop-less Inv-loop μ-loop
 loop-less c = search needs
 
--- src/lib.rt:372:5
 loop-again : tie.Need-loop-again Inv-loop μ-loop
 loop-again c = passed-more (c .before .before .before .before .before .loop .inv) (c .before .before .before .before .loop-test .taken) (c .before .before .before .before .before .before .before .pre .2) (c .before .before .before .before .before .before .before .pre .5 .at _ (c .before .before .before .before .loop-test .taken)) (sym (c .before .is-same .ensures) ∙ c .if1 .left)
 
--- src/lib.rt:380:5
 sub-result-2 : tie.Need-sub-result-2 Inv-loop μ-loop
 sub-result-2 c = search needs
 
--- src/lib.rt:366:1
 returns-2 : tie.Need-returns-2 Inv-loop μ-loop
 returns-2 c = passed-all (c .before .loop .inv) (c .loop-test .left)
 

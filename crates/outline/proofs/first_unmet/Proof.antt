@@ -5,47 +5,36 @@ use Rattle.outline.proofs.Questions.{asked2, asked3, asked4, asked5-cou
 use Rattle.lists.proofs.Bool.{said-no, said-yes}
 use Rattle.lists.proofs.Order.{le-trans}
 
--- src/lib.rt:148:9
 fits-and-ends-requires : tie.Need-fits-and-ends-requires
 fits-and-ends-requires c κs = search needs
 
--- src/lib.rt:149:9
 returns : tie.Need-returns
 returns c = asked2 _ (said-no (c .before .fits-and-ends .ensures) (c .if1 .taken))
 
--- src/lib.rt:151:9
 are-lines-requires : tie.Need-are-lines-requires
 are-lines-requires c κs = search needs
 
--- src/lib.rt:152:9
 returns-2 : tie.Need-returns-2
 returns-2 c = asked3 _ (said-yes (c .before .before .before .fits-and-ends .ensures) (c .before .before .if1 .left)) (said-no (c .before .are-lines .ensures) (c .if2 .taken))
 
--- src/lib.rt:154:9
 ends-in-order-requires : tie.Need-ends-in-order-requires
 ends-in-order-requires c κs = (c .before .before .before .before .before .pre) .high
 
--- src/lib.rt:155:9
 returns-3 : tie.Need-returns-3
 returns-3 c = asked4 (c .before .before .before .before .before .before .before .pre) (said-yes (c .before .before .before .before .before .fits-and-ends .ensures) (c .before .before .before .before .if1 .left)) (said-yes (c .before .before .before .are-lines .ensures) (c .before .before .if2 .left)) (said-no (c .before .ends-in-order .ensures) (c .if3 .taken))
 
--- src/lib.rt:157:9
 counts-fit-requires : tie.Need-counts-fit-requires
 counts-fit-requires c κs = search needs
 
--- src/lib.rt:158:9
 returns-4 : tie.Need-returns-4
 returns-4 c = asked5-counts (c .before .before .before .before .before .before .before .before .before .pre) (said-yes (c .before .before .before .before .before .before .before .fits-and-ends .ensures) (c .before .before .before .before .before .before .if1 .left)) (said-yes (c .before .before .before .before .before .are-lines .ensures) (c .before .before .before .before .if2 .left)) (said-yes (c .before .before .before .ends-in-order .ensures) (c .before .before .if3 .left)) (said-no (c .before .counts-fit .ensures) (c .if4 .taken))
 
--- src/lib.rt:160:9
 bodies-fit-requires : tie.Need-bodies-fit-requires
 bodies-fit-requires c κs = (le-trans ((c .before .before .before .before .before .before .before .before .before .pre) .highM) ((c .before .before .before .before .before .before .before .before .before .pre) .high), methods-few (c .before .before .before .before .before .before .before .before .before .pre))
 
--- src/lib.rt:161:9
 returns-5 : tie.Need-returns-5
 returns-5 c = asked5-bodies (c .before .before .before .before .before .before .before .before .before .before .before .pre) (said-yes (c .before .before .before .before .before .before .before .before .before .fits-and-ends .ensures) (c .before .before .before .before .before .before .before .before .if1 .left)) (said-yes (c .before .before .before .before .before .before .before .are-lines .ensures) (c .before .before .before .before .before .before .if2 .left)) (said-yes (c .before .before .before .before .before .ends-in-order .ensures) (c .before .before .before .before .if3 .left)) (said-yes (c .before .before .before .counts-fit .ensures) (c .before .before .if4 .left)) (said-no (c .before .bodies-fit .ensures) (c .if5 .taken))
 
--- src/lib.rt:144:1
 returns-6 : tie.Need-returns-6
 returns-6 c = asked5-none (c .before .before .before .before .before .before .before .before .before .before .before .pre) (said-yes (c .before .before .before .before .before .before .before .before .before .fits-and-ends .ensures) (c .before .before .before .before .before .before .before .before .if1 .left)) (said-yes (c .before .before .before .before .before .before .before .are-lines .ensures) (c .before .before .before .before .before .before .if2 .left)) (said-yes (c .before .before .before .before .before .ends-in-order .ensures) (c .before .before .before .before .if3 .left)) (said-yes (c .before .before .before .counts-fit .ensures) (c .before .before .if4 .left)) (said-yes (c .before .bodies-fit .ensures) (c .if5 .left))
 

@@ -5,31 +5,24 @@ use Prim.Native.Nat.{_-_}
 use Rattle.outline.proofs.Names.{entry-none, entry-some}
 use Rattle.lists.proofs.Order.{le-of-lt}
 
--- src/lib.rt:329:9
 cut-requires : tie.Need-cut-requires
 cut-requires c κs = (c .before .pre .0, le-of-lt (c .before .pre .1))
 
--- src/lib.rt:331:30
 add-t8 : tie.Need-add-t8
 add-t8 c = search needs
 
--- src/lib.rt:331:9
 returns : tie.Need-returns
 returns c = entry-none (c .before .cut .ensures) (c .before .before .before .pre .1) (c .if1 .taken)
 
--- src/lib.rt:333:13
 add-i : tie.Need-add-i
 add-i c = search needs
 
--- src/lib.rt:334:9
 cut-requires-2 : tie.Need-cut-requires-2
 cut-requires-2 c κs = search needs
 
--- src/lib.rt:335:28
 sub-t9 : tie.Need-sub-t9
 sub-t9 c = search needs
 
--- src/lib.rt:325:1
 returns-2 : tie.Need-returns-2
 returns-2 c = entry-some (c .before .before .cut .ensures) (c .before .before .before .before .pre .1) (c .before .if1 .left) (c .cut2 .ensures)
 

@@ -1,36 +1,25 @@
 use borrow.Author.Needs.{needs}
 use Rattle.questions.proofs.prepare.Statement.{statement}
 use Rattle.questions.proofs.prepare.Tie as tie
-use Rattle.questions.proofs.prepare.Reads as reads
-use Rattle.questions.proofs.prepare.Lts as lts
-use Rattle.questions.proofs.measure_of.Reads as measure-of-reads
-use Rattle.sheet.proofs.fill.Reads as fill-reads
-use Rattle.table.proofs.read.Reads as read-reads
 use mathlib.Core.Path.{refl}
 use Rattle.sheet.specs.Sheet.{tableIn}
 use Rattle.questions.proofs.Preparing.{not-read, sound, limits, known, is-prepared}
 
--- src/lib.rt:61:9
 read-requires : tie.Need-read-requires
 read-requires c κs = search needs
 
--- src/lib.rt:64:9
 returns : tie.Need-returns
 returns c = not-read (c .before .before .before .before .before .before .args .file .now) (c .before .before .before .read .ensures) (c .if1 .taken) (tableIn (c .before .before .before .before .before .before .args .ws .now)) refl
 
--- src/lib.rt:71:5
 fill-requires : tie.Need-fill-requires
 fill-requires c κs = (sound (c .before .before .before .before .before .before .before .args .file .now) (c .before .before .before .before .read .ensures) (c .before .if1 .left), limits (c .before .before .before .before .before .before .before .args .file .now) (c .before .before .before .before .read .ensures) (c .before .if1 .left), c .before .before .before .before .before .before .before .pre)
 
--- src/lib.rt:72:9
 measure-of-requires : tie.Need-measure-of-requires
 measure-of-requires c κs = rw (c .before .before .before .fill .ensures) (known (c .before .before .before .before .before .before .before .before .before .before .before .args .file .now) (c .before .before .before .before .before .before .before .before .read .ensures) (c .before .before .before .before .before .if1 .left))
 
--- src/lib.rt:57:1
 same-length : tie.Need-same-length
 same-length c = search needs
 
--- src/lib.rt:57:1
 returns-2 : tie.Need-returns-2
 returns-2 c = is-prepared (c .before .before .before .before .before .before .before .before .before .before .before .before .args .file .now) (c .before .before .before .before .before .before .before .before .before .read .ensures) (c .before .before .before .before .before .before .if1 .left) (c .before .before .before .before .fill .ensures) (c .measure-of .ensures)
 

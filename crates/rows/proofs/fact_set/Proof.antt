@@ -17,63 +17,48 @@ Inv-loop s start size h a b w₀ i₀ w i = Listing (declared (sections (linesOf
 abbrev μ-loop : tie.MeasureT-loop
 μ-loop s start size h a b w₀ i₀ w i = b - i
 
--- src/lib.rt:50:8
 is-hyphen-requires : tie.Need-is-hyphen-requires Inv-loop μ-loop
 is-hyphen-requires c κs = (c .before .pre .1, c .before .pre .2)
 
--- src/lib.rt:51:9
 returns : tie.Need-returns Inv-loop μ-loop
 returns c = names-hyphen _ _ _ (facts-few (c .before .before .before .pre .0)) (c .before .is-hyphen .ensures) (c .if1 .taken)
 
--- src/lib.rt:54:5
 loop-holds : tie.Need-loop-holds Inv-loop μ-loop
 loop-holds c = listing-first _ _ _ _ (c .before .before .before .pre .1)
 
--- src/lib.rt:55:13
 cut-requires : tie.Need-cut-requires Inv-loop μ-loop
 cut-requires c κs = (c .loop .inv .high, c .before .before .before .before .pre .2)
 
--- src/lib.rt:56:13
 look-up-requires : tie.Need-look-up-requires Inv-loop μ-loop
 look-up-requires c κs = (c .before .before .before .before .before .pre .0 .indexed, c .cut .ensures .low, le-trans (c .cut .ensures .high) (c .before .before .before .before .before .pre .2))
 
--- src/lib.rt:58:13
 returns-2 : tie.Need-returns-2 Inv-loop μ-loop
 returns-2 c = names-parts _ _ (c .before .before .before .before .before .before .is-hyphen .ensures) (c .before .before .before .before .before .if1 .left) (facts-off (c .before .before .before .before .loop .inv .adding .wide) (listing-out (c .before .before .before .before .loop .inv) (c .before .before .before .cut .ensures) (c .before .before .before .before .before .before .before .before .pre .2) (c .before .before .look-up .ensures) (le-count (count-facts (c .before .before .before .before .before .before .before .before .pre .0)) (c .if2 .taken))))
 
--- src/lib.rt:63:24
 slice-aggregate-has : tie.Need-slice-aggregate-has Inv-loop μ-loop
 slice-aggregate-has c = search needs
 
--- src/lib.rt:63:12
 has-requires : tie.Need-has-requires Inv-loop μ-loop
 has-requires c κs = search needs
 
--- src/lib.rt:64:13
 returns-3 : tie.Need-returns-3 Inv-loop μ-loop
 returns-3 c = names-parts _ _ (c .before .before .before .before .before .before .before .before .before .is-hyphen .ensures) (c .before .before .before .before .before .before .before .before .if1 .left) (facts-off (c .before .before .before .before .before .before .before .loop .inv .adding .wide) (listing-twice (c .before .before .before .before .before .before .before .loop .inv) (c .before .before .before .before .before .before .cut .ensures) (c .before .before .before .before .before .before .before .before .before .before .before .pre .2) (c .before .before .before .before .before .look-up .ensures) (lt-count (count-facts (c .before .before .before .before .before .before .before .before .before .before .before .pre .0)) (c .before .before .before .if2 .left)) (sym (c .before .has .ensures) ∙ c .if3 .taken)))
 
--- src/lib.rt:69:24
 slice-aggregate-insert : tie.Need-slice-aggregate-insert Inv-loop μ-loop
 slice-aggregate-insert c = search needs
 
--- src/lib.rt:69:9
 insert-requires : tie.Need-insert-requires Inv-loop μ-loop
 insert-requires c κs = search needs
 
--- src/lib.rt:71:13
 returns-4 : tie.Need-returns-4 Inv-loop μ-loop
 returns-4 c = names-parts _ _ (c .before .before .before .before .before .before .before .before .before .before .before .before .before .is-hyphen .ensures) (c .before .before .before .before .before .before .before .before .before .before .before .before .if1 .left) (rw (c .before .before .insert .ensures) (listing-last (c .before .before .before .before .before .before .before .before .before .before .before .loop .inv) (c .before .before .before .before .before .before .before .before .before .before .cut .ensures) (c .before .before .before .before .before .before .before .before .before .before .before .before .before .before .before .pre .2) (c .before .before .before .before .before .before .before .before .before .look-up .ensures) (lt-count (count-facts (c .before .before .before .before .before .before .before .before .before .before .before .before .before .before .before .pre .0)) (c .before .before .before .before .before .before .before .if2 .left)) (facts-few (c .before .before .before .before .before .before .before .before .before .before .before .before .before .before .before .pre .0)) (sym (c .before .before .before .before .before .has .ensures) ∙ c .before .before .before .before .if3 .left) (c .if4 .taken)))
 
--- src/lib.rt:73:13
 add-i : tie.Need-add-i Inv-loop μ-loop
 add-i c = omega (arith, c .before .before .before .before .before .before .before .before .before .before .cut .ensures .high)
 
--- src/lib.rt:54:5
 loop-less : tie.Need-loop-less Inv-loop μ-loop
 loop-less c = falls (c .before .before .before .before .before .before .before .before .before .before .cut .ensures .low) (c .before .before .before .before .before .before .before .before .before .before .cut .ensures .high) (c .if4 .left)
 
--- src/lib.rt:54:5
 loop-again : tie.Need-loop-again Inv-loop μ-loop
 loop-again c = rw (c .before .before .insert .ensures) (listing-more (c .before .before .before .before .before .before .before .before .before .before .before .loop .inv) (c .before .before .before .before .before .before .before .before .before .before .cut .ensures) (c .before .before .before .before .before .before .before .before .before .before .before .before .before .before .before .pre .2) (c .before .before .before .before .before .before .before .before .before .look-up .ensures) (lt-count (count-facts (c .before .before .before .before .before .before .before .before .before .before .before .before .before .before .before .pre .0)) (c .before .before .before .before .before .before .before .if2 .left)) (facts-few (c .before .before .before .before .before .before .before .before .before .before .before .before .before .before .before .pre .0)) (sym (c .before .before .before .before .before .has .ensures) ∙ c .before .before .before .before .if3 .left) (c .if4 .left))
 

@@ -16,67 +16,51 @@ Inv-loop s start size h a b bodies₀ at ok₀ n₀ i₀ bodies ok n i = Bodying
 abbrev μ-loop : tie.MeasureT-loop
 μ-loop s start size h a b bodies₀ at ok₀ n₀ i₀ bodies ok n i = b - i
 
--- src/lib.rt:170:8
 is-hyphen-requires : tie.Need-is-hyphen-requires Inv-loop μ-loop
 is-hyphen-requires c κs = (c .before .before .pre .1, c .before .before .pre .2)
 
--- src/lib.rt:171:9
 returns : tie.Need-returns Inv-loop μ-loop
 returns c = body-hyphen _ _ _ _ _ (c .before .is-hyphen .ensures) (c .if1 .taken)
 
--- src/lib.rt:176:5
 loop-holds : tie.Need-loop-holds Inv-loop μ-loop
 loop-holds c = bodying-first _ _ _ _ _ _ (c .before .before .before .before .pre .1)
 
--- src/lib.rt:177:13
 cut-requires : tie.Need-cut-requires Inv-loop μ-loop
 cut-requires c κs = (c .loop .inv .high, c .before .before .before .before .before .pre .2)
 
--- src/lib.rt:178:13
 look-up-requires : tie.Need-look-up-requires Inv-loop μ-loop
 look-up-requires c κs = (c .before .before .before .before .before .before .pre .0 .indexed, c .cut .ensures .low, le-trans (c .cut .ensures .high) (c .before .before .before .before .before .before .pre .2))
 
--- src/lib.rt:179:27
 add-both : tie.Need-add-both Inv-loop μ-loop
 add-both c = omega (arith, c .before .before .before .before .before .before .before .before .pre .0 .steps, c .before .before .before .before .before .before .before .before .pre .0 .jobs)
 
--- src/lib.rt:179:9
 both-requires : tie.Need-both-requires Inv-loop μ-loop
 both-requires c κs = search needs
 
--- src/lib.rt:180:26
 cast-bodies : tie.Need-cast-bodies Inv-loop μ-loop
 cast-bodies c = omega (arith, task-small _ (c .before .before .before .before .before .before .before .before .before .pre .0) (c .before .before .look-up .ensures))
 
--- src/lib.rt:180:16
 add-bodies : tie.Need-add-bodies Inv-loop μ-loop
 add-bodies c = omega (arith, (room-at _ _ _ (c .before .before .before .before .before .before .before .before .before .pre .3) (parts-length _ _ (c .before .before .before .before .before .before .is-hyphen .ensures) (c .before .before .before .before .before .if1 .left)) (bodying-room (c .before .before .before .before .loop .inv) (c .before .before .before .cut .ensures) (c .before .before .before .before .before .before .before .before .before .pre .2)) (c .before .before .before .before .loop .inv .placing .same)))
 
--- src/lib.rt:180:9
 slice-write-bodies : tie.Need-slice-write-bodies Inv-loop μ-loop
 slice-write-bodies c = (room-at _ _ _ (c .before .before .before .before .before .before .before .before .before .pre .3) (parts-length _ _ (c .before .before .before .before .before .before .is-hyphen .ensures) (c .before .before .before .before .before .if1 .left)) (bodying-room (c .before .before .before .before .loop .inv) (c .before .before .before .cut .ensures) (c .before .before .before .before .before .before .before .before .before .pre .2)) (c .before .before .before .before .loop .inv .placing .same))
 
--- src/lib.rt:181:9
 add-n : tie.Need-add-n Inv-loop μ-loop
 add-n c = omega (arith, (room-at _ _ _ (c .before .before .before .before .before .before .before .before .before .pre .3) (parts-length _ _ (c .before .before .before .before .before .before .is-hyphen .ensures) (c .before .before .before .before .before .if1 .left)) (bodying-room (c .before .before .before .before .loop .inv) (c .before .before .before .cut .ensures) (c .before .before .before .before .before .before .before .before .before .pre .2)) (c .before .before .before .before .loop .inv .placing .same)))
 
--- src/lib.rt:183:13
 same-length : tie.Need-same-length Inv-loop μ-loop
 same-length c = search needs
 
--- src/lib.rt:183:13
 returns-2 : tie.Need-returns-2 Inv-loop μ-loop
 returns-2 c = body-parts _ _ (c .before .before .before .before .before .before .before .is-hyphen .ensures) (c .before .before .before .before .before .before .if1 .left) (bodying-last (c .before .before .before .before .before .loop .inv) (c .before .before .before .before .cut .ensures) (c .before .before .before .before .before .before .before .before .before .before .pre .2) _ _ (c .before .before .before .look-up .ensures) (among-is _ _ _ _ (c .before .before .before .look-up .ensures) (count-tasks (c .before .before .before .before .before .before .before .before .before .before .pre .0))) (c .before .both .ensures) (c .if2 .taken))
 
--- src/lib.rt:185:13
 add-i : tie.Need-add-i Inv-loop μ-loop
 add-i c = omega (arith, c .before .before .before .before .cut .ensures .high)
 
--- src/lib.rt:176:5
 loop-less : tie.Need-loop-less Inv-loop μ-loop
 loop-less c = falls (c .before .before .before .before .cut .ensures .low) (c .before .before .before .before .cut .ensures .high) (c .if2 .left)
 
--- src/lib.rt:176:5
 loop-again : tie.Need-loop-again Inv-loop μ-loop
 loop-again c = bodying-more (c .before .before .before .before .before .loop .inv) (c .before .before .before .before .cut .ensures) (c .before .before .before .before .before .before .before .before .before .before .pre .2) _ _ (c .before .before .before .look-up .ensures) (among-is _ _ _ _ (c .before .before .before .look-up .ensures) (count-tasks (c .before .before .before .before .before .before .before .before .before .before .pre .0))) (c .before .both .ensures) (c .if2 .left)
 

@@ -8,47 +8,36 @@ use Rattle.rows.proofs.Fields.{field-facts, field-name, field-digit}
 use Rattle.rows.proofs.EndLines.{start-ended, start-line, root-line, ends-means}
 use Rattle.rows.proofs.Counts.{among-is, count-jobs}
 
--- src/lib.rt:284:9
 cut-requires : tie.Need-cut-requires
 cut-requires c κs = (c .before .pre .shaped .high, le-refl _)
 
--- src/lib.rt:285:9
 field-at-requires : tie.Need-field-at-requires
 field-at-requires c κs = (c .cut .ensures .low, c .cut .ensures .high)
 
--- src/lib.rt:286:9
 fact-set-requires : tie.Need-fact-set-requires
 fact-set-requires c κs = (c .before .before .before .pre, c .field-at .ensures .order, le-trans (c .field-at .ensures .high) (c .before .cut .ensures .high))
 
--- src/lib.rt:287:13
 add-d : tie.Need-add-d
 add-d c = omega (arith, (start-ended (c .before .before .before .before .pre) (c .before .before .cut .ensures)))
 
--- src/lib.rt:288:9
 cut-requires-2 : tie.Need-cut-requires-2
 cut-requires-2 c κs = (next-le (start-ended (c .before .before .before .before .pre) (c .before .before .cut .ensures)), le-refl _)
 
--- src/lib.rt:289:9
 field-at-requires-2 : tie.Need-field-at-requires-2
 field-at-requires-2 c κs = (c .cut2 .ensures .low, c .cut2 .ensures .high)
 
--- src/lib.rt:290:9
 look-up-requires : tie.Need-look-up-requires
 look-up-requires c κs = (c .before .before .before .before .before .before .pre .indexed, c .field-at2 .ensures .order, le-trans (c .field-at2 .ensures .high) (c .before .cut2 .ensures .high))
 
--- src/lib.rt:291:9
 field-at-requires-3 : tie.Need-field-at-requires-3
 field-at-requires-3 c κs = (c .before .before .cut2 .ensures .low, c .before .before .cut2 .ensures .high)
 
--- src/lib.rt:294:13
 both-requires : tie.Need-both-requires
 both-requires c κs = search needs
 
--- src/lib.rt:297:16
 digit-of-requires : tie.Need-digit-of-requires
 digit-of-requires c κs = (c .before .before .before .field-at3 .ensures .order, le-trans (c .before .before .before .field-at3 .ensures .high) (c .before .before .before .before .before .before .cut2 .ensures .high))
 
--- src/lib.rt:278:1
 returns : tie.Need-returns
 returns c = ends-means _ _ _ (start-line (c .before .before .before .before .before .before .before .before .before .before .before .before .pre) (c .before .before .before .before .before .before .before .before .before .before .cut .ensures)) (root-line (c .before .before .before .before .before .before .before .before .before .before .before .before .pre) (c .before .before .before .before .before .before .before .before .before .before .cut .ensures) (c .before .before .before .before .before .before .before .cut2 .ensures)) _ _ _ _ _ _ (field-facts (c .before .before .before .before .before .before .before .before .before .field-at .ensures) (c .before .before .before .before .before .before .before .before .fact-set .ensures)) (field-name _ (c .before .before .before .before .before .before .field-at2 .ensures) (c .before .before .before .before .before .look-up .ensures)) (among-is _ _ _ _ (field-name _ (c .before .before .before .before .before .before .field-at2 .ensures) (c .before .before .before .before .before .look-up .ensures)) (count-jobs (c .before .before .before .before .before .before .before .before .before .before .before .before .pre))) (field-digit (c .before .before .before .before .field-at3 .ensures) (c .digit-of .ensures)) (c .before .both .ensures)
 

@@ -19,63 +19,48 @@ Inv-loop s start size h owners₀ sizes₀ bodies₀ ok₀ i₀ a₀ owners size
 abbrev μ-loop : tie.MeasureT-loop
 μ-loop s start size h owners₀ sizes₀ bodies₀ ok₀ i₀ a₀ owners sizes bodies ok i a = h .methods - i
 
--- src/lib.rt:239:5
 loop-holds : tie.Need-loop-holds Inv-loop μ-loop
 loop-holds c = (on-first (methods-at (c .before .pre)), methoding-first _ _ _ refl refl refl)
 
--- src/lib.rt:240:13
 cut-requires : tie.Need-cut-requires Inv-loop μ-loop
 cut-requires c κs = (c .before .before .loop .inv .0 .high, le-refl _)
 
--- src/lib.rt:241:54
 slice-aggregate-read-method : tie.Need-slice-aggregate-read-method Inv-loop μ-loop
 slice-aggregate-read-method c = search needs
 
--- src/lib.rt:241:67
 mul-read-method : tie.Need-mul-read-method Inv-loop μ-loop
 mul-read-method c = omega (arith, c .before .before .before .before .before .before .pre .methods)
 
--- src/lib.rt:241:13
 read-method-requires : tie.Need-read-method-requires Inv-loop μ-loop
 read-method-requires c κs = (c .before .before .before .before .before .before .pre, c .before .cut .ensures .low, c .before .cut .ensures .high, body-places (c .before .before .before .before .before .before .pre) (c .before .before .if1 .taken) (body-fits (c .before .before .before .before .before .before .pre) _ (c .before .before .if1 .taken) (method-line (c .before .before .before .before .before .before .pre) _ (c .before .before .if1 .taken) (on-is (c .before .before .before .before .loop .inv .0) (c .before .cut .ensures) (method-walked (c .before .before .before .before .before .before .pre) (c .before .before .if1 .taken))))) (c .before .before .before .before .loop .inv .1 .wide .2))
 
--- src/lib.rt:242:21
 cast-owners : tie.Need-cast-owners Inv-loop μ-loop
 cast-owners c = omega (arith, job-small _ (c .before .before .before .before .before .before .before .before .before .pre) (c .before .before .read-method .ensures .owner))
 
--- src/lib.rt:242:9
 array-write-owners : tie.Need-array-write-owners Inv-loop μ-loop
 array-write-owners c = omega (arith, c .before .before .before .before .before .before .before .before .before .pre .methods, c .before .before .before .before .before .before .before .loop .inv .1 .wide .0)
 
--- src/lib.rt:243:20
 cast-sizes : tie.Need-cast-sizes Inv-loop μ-loop
 cast-sizes c = omega (arith, c .before .before .before .read-method .ensures .size, (body-fits (c .before .before .before .before .before .before .before .before .before .before .pre) _ (c .before .before .before .before .before .before .if1 .taken) (method-line (c .before .before .before .before .before .before .before .before .before .before .pre) _ (c .before .before .before .before .before .before .if1 .taken) (on-is (c .before .before .before .before .before .before .before .before .loop .inv .0) (c .before .before .before .before .before .cut .ensures) (method-walked (c .before .before .before .before .before .before .before .before .before .before .pre) (c .before .before .before .before .before .before .if1 .taken))))))
 
--- src/lib.rt:243:9
 array-write-sizes : tie.Need-array-write-sizes Inv-loop μ-loop
 array-write-sizes c = omega (arith, c .before .before .before .before .before .before .before .before .before .before .pre .methods, c .before .before .before .before .before .before .before .before .loop .inv .1 .wide .1)
 
--- src/lib.rt:244:9
 both-requires : tie.Need-both-requires Inv-loop μ-loop
 both-requires c κs = search needs
 
--- src/lib.rt:245:9
 add-i : tie.Need-add-i Inv-loop μ-loop
 add-i c = omega (arith, c .before .before .before .before .before .before .before .before .before .before .before .pre .methods)
 
--- src/lib.rt:246:13
 add-a : tie.Need-add-a Inv-loop μ-loop
 add-a c = omega (arith, on-line (c .before .before .before .before .before .before .before .before .before .loop .inv .0) (c .before .before .before .before .before .before .cut .ensures) (method-walked (c .before .before .before .before .before .before .before .before .before .before .before .pre) (c .before .before .before .before .before .before .before .if1 .taken)))
 
--- src/lib.rt:239:5
 loop-less : tie.Need-loop-less Inv-loop μ-loop
 loop-less c = omega arith
 
--- src/lib.rt:239:5
 loop-again : tie.Need-loop-again Inv-loop μ-loop
 loop-again c = (on-more (c .before .before .before .before .before .before .before .before .before .loop .inv .0) (c .before .before .before .before .before .before .cut .ensures) (method-walked (c .before .before .before .before .before .before .before .before .before .before .before .pre) (c .before .before .before .before .before .before .before .if1 .taken)), methoding-more (c .before .before .before .before .before .before .before .before .before .loop .inv .1) (lt-count (methods-count (c .before .before .before .before .before .before .before .before .before .before .before .pre)) (c .before .before .before .before .before .before .before .if1 .taken)) (lt-le (c .before .before .before .before .before .before .before .if1 .taken) (c .before .before .before .before .before .before .before .before .before .before .before .pre .methods)) (c .before .before .before .before .before .before .before .before .before .before .before .pre .bodies) _ _ _ _ _ _ (method-line (c .before .before .before .before .before .before .before .before .before .before .before .pre) _ (c .before .before .before .before .before .before .before .if1 .taken) (on-is (c .before .before .before .before .before .before .before .before .before .loop .inv .0) (c .before .before .before .before .before .before .cut .ensures) (method-walked (c .before .before .before .before .before .before .before .before .before .before .before .pre) (c .before .before .before .before .before .before .before .if1 .taken)))) (c .before .before .before .before .read-method .ensures) (c .both .ensures))
 
--- src/lib.rt:229:1
 returns : tie.Need-returns Inv-loop μ-loop
 returns c = methoding-done (c .before .before .loop .inv .1) (le-count (methods-count (c .before .before .before .before .pre)) (c .if1 .left))
 

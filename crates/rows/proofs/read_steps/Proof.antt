@@ -19,75 +19,57 @@ Inv-loop s start size h needs₀ sets₀ clears₀ ok₀ i₀ a₀ needs sets cl
 abbrev μ-loop : tie.MeasureT-loop
 μ-loop s start size h needs₀ sets₀ clears₀ ok₀ i₀ a₀ needs sets clears ok i a = h .steps - i
 
--- src/lib.rt:132:5
 loop-holds : tie.Need-loop-holds Inv-loop μ-loop
 loop-holds c = (on-first (steps-at (c .before .pre)), stepping-first _ _ refl refl refl)
 
--- src/lib.rt:133:13
 cut-requires : tie.Need-cut-requires Inv-loop μ-loop
 cut-requires c κs = (c .before .before .loop .inv .0 .high, le-refl _)
 
--- src/lib.rt:134:17
 step-sets-requires : tie.Need-step-sets-requires Inv-loop μ-loop
 step-sets-requires c κs = (c .before .before .before .before .before .pre, c .cut .ensures .low, c .cut .ensures .high)
 
--- src/lib.rt:135:20
 element-copy-out-needs : tie.Need-element-copy-out-needs Inv-loop μ-loop
 element-copy-out-needs c = search needs
 
--- src/lib.rt:135:9
 mul-needs : tie.Need-mul-needs Inv-loop μ-loop
 mul-needs c = search needs
 
--- src/lib.rt:135:9
 array-write-needs : tie.Need-array-write-needs Inv-loop μ-loop
 array-write-needs c = omega (arith, c .before .before .before .before .before .before .before .pre .steps, c .before .before .before .before .before .loop .inv .1 .wide .0)
 
--- src/lib.rt:136:19
 element-copy-out-sets : tie.Need-element-copy-out-sets Inv-loop μ-loop
 element-copy-out-sets c = search needs
 
--- src/lib.rt:136:9
 mul-sets : tie.Need-mul-sets Inv-loop μ-loop
 mul-sets c = search needs
 
--- src/lib.rt:136:9
 array-write-sets : tie.Need-array-write-sets Inv-loop μ-loop
 array-write-sets c = omega (arith, c .before .before .before .before .before .before .before .before .pre .steps, c .before .before .before .before .before .before .loop .inv .1 .wide .1)
 
--- src/lib.rt:137:21
 element-copy-out-clears : tie.Need-element-copy-out-clears Inv-loop μ-loop
 element-copy-out-clears c = search needs
 
--- src/lib.rt:137:9
 mul-clears : tie.Need-mul-clears Inv-loop μ-loop
 mul-clears c = search needs
 
--- src/lib.rt:137:9
 array-write-clears : tie.Need-array-write-clears Inv-loop μ-loop
 array-write-clears c = omega (arith, c .before .before .before .before .before .before .before .before .before .pre .steps, c .before .before .before .before .before .before .before .loop .inv .1 .wide .2)
 
--- src/lib.rt:138:9
 both-requires : tie.Need-both-requires Inv-loop μ-loop
 both-requires c κs = search needs
 
--- src/lib.rt:139:9
 add-i : tie.Need-add-i Inv-loop μ-loop
 add-i c = omega (arith, c .before .before .before .before .before .before .before .before .before .before .pre .steps)
 
--- src/lib.rt:140:13
 add-a : tie.Need-add-a Inv-loop μ-loop
 add-a c = omega (arith, on-line (c .before .before .before .before .before .before .before .before .loop .inv .0) (c .before .before .before .before .before .cut .ensures) (step-walked (c .before .before .before .before .before .before .before .before .before .before .pre) (c .before .before .before .before .before .before .if1 .taken)))
 
--- src/lib.rt:132:5
 loop-less : tie.Need-loop-less Inv-loop μ-loop
 loop-less c = omega arith
 
--- src/lib.rt:132:5
 loop-again : tie.Need-loop-again Inv-loop μ-loop
 loop-again c = (on-more (c .before .before .before .before .before .before .before .before .loop .inv .0) (c .before .before .before .before .before .cut .ensures) (step-walked (c .before .before .before .before .before .before .before .before .before .before .pre) (c .before .before .before .before .before .before .if1 .taken)), stepping-more (c .before .before .before .before .before .before .before .before .loop .inv .1) (lt-count (steps-count (c .before .before .before .before .before .before .before .before .before .before .pre)) (c .before .before .before .before .before .before .if1 .taken)) (lt-le (c .before .before .before .before .before .before .if1 .taken) (c .before .before .before .before .before .before .before .before .before .before .pre .steps)) _ _ _ _ _ _ (step-line (c .before .before .before .before .before .before .before .before .before .before .pre) _ (c .before .before .before .before .before .before .if1 .taken) (on-is (c .before .before .before .before .before .before .before .before .loop .inv .0) (c .before .before .before .before .before .cut .ensures) (step-walked (c .before .before .before .before .before .before .before .before .before .before .pre) (c .before .before .before .before .before .before .if1 .taken)))) (c .before .before .before .before .step-sets .ensures) (c .both .ensures))
 
--- src/lib.rt:122:1
 returns : tie.Need-returns Inv-loop μ-loop
 returns c = stepping-done (c .before .before .loop .inv .1) (le-count (steps-count (c .before .before .before .before .pre)) (c .if1 .left))
 

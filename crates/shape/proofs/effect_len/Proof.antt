@@ -1,27 +1,19 @@
 use borrow.Author.Needs.{needs}
 use Rattle.shape.proofs.effect_len.Statement.{statement}
 use Rattle.shape.proofs.effect_len.Tie as tie
-use Rattle.shape.proofs.effect_len.Reads as reads
-use Rattle.shape.proofs.effect_len.Lts as lts
-use Rattle.bitset.proofs.size.Reads as size-reads
-use Rattle.shape.proofs.effects.Reads as effects-reads
 use Rattle.shape.proofs.Slots.{size-of}
 use mathlib.Core.Path.{ap, _∙_}
 use lib.ListN.{length}
 
--- src/lib.rt:207:17
 effects-requires : tie.Need-effects-requires
 effects-requires c κs = search needs
 
--- src/lib.rt:208:18
 slice-aggregate-size : tie.Need-slice-aggregate-size
 slice-aggregate-size c = search needs
 
--- src/lib.rt:208:5
 size-requires : tie.Need-size-requires
 size-requires c κs = search needs
 
--- src/lib.rt:203:1
 returns : tie.Need-returns
 returns c = size-of (c .before .before .effects .result) (c .before .before .effects .ok .1 .0 .1) (c .size .ensures) ∙ ap length (c .before .before .effects .ensures)
 

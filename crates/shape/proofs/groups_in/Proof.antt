@@ -1,20 +1,15 @@
 use Rattle.shape.proofs.groups_in.Statement.{statement}
 use Rattle.shape.proofs.groups_in.Tie as tie
-use Rattle.shape.proofs.groups_in.Reads as reads
-use Rattle.shape.proofs.groups_in.Lts as lts
 use native.Mathlib.Omega.{arith}
 use Rattle.shape.proofs.Groups.{one-letter}
 use mathlib.Core.Path.{refl}
 
--- src/lib.rt:262:9
 returns : tie.Need-returns
 returns c = rw (c .if1 .taken) (refl, omega arith)
 
--- src/lib.rt:265:9
 returns-2 : tie.Need-returns-2
 returns-2 c = rw (c .if2 .taken) (refl, omega arith)
 
--- src/lib.rt:257:1
 returns-3 : tie.Need-returns-3
 returns-3 c = (one-letter (c .before .before .args .r) (c .before .before .pre) (c .before .if1 .left) (c .if2 .left), omega arith)
 

@@ -1,10 +1,6 @@
 use borrow.Author.Needs.{needs}
 use Rattle.shape.proofs.is_named.Statement.{statement}
 use Rattle.shape.proofs.is_named.Tie as tie
-use Rattle.shape.proofs.is_named.Reads as reads
-use Rattle.shape.proofs.is_named.Lts as lts
-use Rattle.shape.proofs.method.Reads as method-reads
-use Rattle.sheet.proofs.body_size.Reads as body-size-reads
 use mathlib.Core.Path.{ap, _∙_}
 use Prim.Native.Nat.{ℕ}
 use lib.Dec.{ltb}
@@ -12,15 +8,12 @@ use lib.ListN.{length}
 use Rattle.planning.specs.Table.{bodyOf}
 use Rattle.sheet.specs.Sheet.{tableIn}
 
--- src/lib.rt:90:30
 method-requires : tie.Need-method-requires
 method-requires c κs = search needs
 
--- src/lib.rt:90:9
 body-size-requires : tie.Need-body-size-requires
 body-size-requires c κs = c .method .ensures .1
 
--- src/lib.rt:86:1
 returns : tie.Need-returns
 returns c = ap (ltb (c .before .before .before .before .args .y)) (c .body-size .ensures ∙ ap (λ (m : ℕ). length (bodyOf (tableIn (c .before .before .before .before .args .ws .now)) m)) (c .before .method .ensures .0))
 

@@ -1,40 +1,28 @@
 use borrow.Author.Needs.{needs}
 use Rattle.shape.proofs.len_in.Statement.{statement}
 use Rattle.shape.proofs.len_in.Tie as tie
-use Rattle.shape.proofs.len_in.Reads as reads
-use Rattle.shape.proofs.len_in.Lts as lts
-use Rattle.shape.proofs.node_len.Reads as node-len-reads
-use Rattle.shape.proofs.slot_len.Reads as slot-len-reads
-use Rattle.sheet.proofs.facts.Reads as facts-reads
 use Rattle.shape.proofs.Groups.{node-there, node-letter, slot-there, slot-letter, start-len, root-len}
 use mathlib.Core.Path.{_∙_}
 use Rattle.sheet.specs.Sheet.{tableIn}
 
--- src/lib.rt:301:9
 node-len-requires : tie.Need-node-len-requires
 node-len-requires c κs = (node-there (c .before .before .before .pre .0) (c .if1 .taken), node-letter (c .before .before .before .pre .0) (c .if1 .taken), rw (c .if1 .taken) at (c .before .before .before .pre .1), rw (c .if1 .taken) at (c .before .before .before .pre .2))
 
--- src/lib.rt:301:9
 returns : tie.Need-returns
 returns c = rw (c .before .if1 .taken) (c .node-len .ensures)
 
--- src/lib.rt:304:9
 slot-len-requires : tie.Need-slot-len-requires
 slot-len-requires c κs = (slot-there (c .before .before .before .before .pre .0) (c .if2 .taken), slot-letter (c .before .before .before .before .pre .0) (c .if2 .taken), rw (c .if2 .taken) at (c .before .before .before .before .pre .1), rw (c .if2 .taken) at (c .before .before .before .before .pre .2))
 
--- src/lib.rt:304:9
 returns-2 : tie.Need-returns-2
 returns-2 c = rw (c .before .if2 .taken) (c .slot-len .ensures)
 
--- src/lib.rt:307:9
 facts-requires : tie.Need-facts-requires
 facts-requires c κs = search needs
 
--- src/lib.rt:307:9
 returns-3 : tie.Need-returns-3
 returns-3 c = rw (c .before .if3 .taken) (c .facts .ensures ∙ start-len (tableIn (c .before .before .before .before .before .before .args .ws .now)) (c .before .before .before .before .before .before .args .n) (c .before .before .before .before .before .before .args .g) (c .before .before .before .before .before .before .args .x) (c .before .before .before .before .before .before .args .y) (rw (c .before .if3 .taken) at (c .before .before .before .before .before .before .pre .0 .group)))
 
--- src/lib.rt:296:1
 returns-4 : tie.Need-returns-4
 returns-4 c = root-len (tableIn (c .before .before .before .before .before .args .ws .now)) (c .before .before .before .before .before .args .r) (c .before .before .before .before .before .args .n) (c .before .before .before .before .before .args .g) (c .before .before .before .before .before .args .x) (c .before .before .before .before .before .args .y) (c .before .before .before .before .before .pre .0 .rule) (c .before .before .if1 .left) (c .before .if2 .left) (c .if3 .left) (c .before .before .before .before .before .pre .0 .group)
 

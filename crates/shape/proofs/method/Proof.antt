@@ -1,35 +1,24 @@
 use borrow.Author.Needs.{needs}
 use Rattle.shape.proofs.method.Statement.{statement}
 use Rattle.shape.proofs.method.Tie as tie
-use Rattle.shape.proofs.method.Reads as reads
-use Rattle.shape.proofs.method.Lts as lts
-use Rattle.index.proofs.meaning.Reads as meaning-reads
-use Rattle.shape.proofs.first.Reads as first-reads
-use Rattle.shape.proofs.tasks_of.Reads as tasks-of-reads
 use native.Mathlib.Omega.{arith}
 use Rattle.shape.proofs.Nodes.{few, few-methods, method-is}
 
--- src/lib.rt:66:24
 first-requires : tie.Need-first-requires
 first-requires c κs = search needs
 
--- src/lib.rt:66:43
 tasks-of-requires : tie.Need-tasks-of-requires
 tasks-of-requires c κs = search needs
 
--- src/lib.rt:66:24
 add-meaning : tie.Need-add-meaning
 add-meaning c = omega (arith, c .before .first .ensures .2, c .tasks-of .ensures .1)
 
--- src/lib.rt:66:24
 add-meaning-2 : tie.Need-add-meaning-2
 add-meaning-2 c = omega (arith, c .before .first .ensures .2, c .tasks-of .ensures .1, c .before .before .before .before .pre .1, few-methods (c .before .before .before .before .pre .0))
 
--- src/lib.rt:66:5
 meaning-requires : tie.Need-meaning-requires
 meaning-requires c κs = (few (c .before .before .before .before .pre .0 .indexed), omega (arith, c .before .first .ensures .1), omega (arith, c .before .first .ensures .2, c .tasks-of .ensures .1, c .before .before .before .before .pre .1, few-methods (c .before .before .before .before .pre .0)))
 
--- src/lib.rt:62:1
 returns : tie.Need-returns
 returns c = method-is (c .before .before .before .before .before .pre .0) (c .before .before .before .before .before .pre .1) (c .before .before .first .ensures .0) (c .before .tasks-of .ensures .0) (c .meaning .ensures)
 

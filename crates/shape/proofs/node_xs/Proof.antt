@@ -1,59 +1,41 @@
 use borrow.Author.Needs.{needs}
 use Rattle.shape.proofs.node_xs.Statement.{statement}
 use Rattle.shape.proofs.node_xs.Tie as tie
-use Rattle.shape.proofs.node_xs.Reads as reads
-use Rattle.shape.proofs.node_xs.Lts as lts
-use Rattle.shape.proofs.children_of.Reads as children-of-reads
-use Rattle.shape.proofs.methods_of.Reads as methods-of-reads
-use Rattle.shape.proofs.steps_of.Reads as steps-of-reads
-use Rattle.shape.proofs.tasks_of.Reads as tasks-of-reads
 use Rattle.shape.proofs.Groups.{letter-g}
 
--- src/lib.rt:99:14
 tasks-of-requires : tie.Need-tasks-of-requires
 tasks-of-requires c κs = search needs
 
--- src/lib.rt:100:14
 methods-of-requires : tie.Need-methods-of-requires
 methods-of-requires c κs = search needs
 
--- src/lib.rt:103:14
 methods-of-requires-2 : tie.Need-methods-of-requires-2
 methods-of-requires-2 c κs = search needs
 
--- src/lib.rt:104:14
 steps-of-requires : tie.Need-steps-of-requires
 steps-of-requires c κs = search needs
 
--- src/lib.rt:105:14
 children-of-requires : tie.Need-children-of-requires
 children-of-requires c κs = search needs
 
--- src/lib.rt:94:1
 returns : tie.Need-returns
 returns c = rw (c .before .match .keys1) (c .tasks-of .ensures .0)
 
--- src/lib.rt:94:1
 returns-2 : tie.Need-returns-2
 returns-2 c = rw (c .before .match .keys2) (c .methods-of .ensures .0)
 
--- src/lib.rt:94:1
 returns-3 : tie.Need-returns-3
 returns-3 c = rw (c .match .keys3)
 
--- src/lib.rt:94:1
 returns-4 : tie.Need-returns-4
 returns-4 c = rw (c .match .keys4)
 
--- src/lib.rt:94:1
 returns-5 : tie.Need-returns-5
 returns-5 c = rw (c .before .match .keys5) (c .methods-of2 .ensures .0)
 
--- src/lib.rt:94:1
 returns-6 : tie.Need-returns-6
 returns-6 c = rw (c .before .match .keys6) (c .steps-of .ensures .0)
 
--- src/lib.rt:94:1
 returns-7 : tie.Need-returns-7
 returns-7 c = rw (letter-g (c .before .before .before .before .args .g) (c .before .before .before .before .pre .1) (c .before .match .rest .0 .0 .0 .0 .0 .1) (c .before .match .rest .0 .0 .0 .0 .1) (c .before .match .rest .0 .0 .0 .1) (c .before .match .rest .0 .0 .1) (c .before .match .rest .0 .1) (c .before .match .rest .1)) (c .children-of .ensures .0)
 

@@ -1,30 +1,22 @@
 use borrow.Author.Needs.{needs}
 use Rattle.shape.proofs.node_ys.Statement.{statement}
 use Rattle.shape.proofs.node_ys.Tie as tie
-use Rattle.shape.proofs.node_ys.Reads as reads
-use Rattle.shape.proofs.node_ys.Lts as lts
-use Rattle.shape.proofs.children_of.Reads as children-of-reads
 use Rattle.shape.proofs.Groups.{one-row}
 use Rattle.sheet.specs.Sheet.{tableIn}
 use Rattle.shape.specs.Shape.{node}
 
--- src/lib.rt:114:14
 children-of-requires : tie.Need-children-of-requires
 children-of-requires c κs = search needs
 
--- src/lib.rt:115:14
 children-of-requires-2 : tie.Need-children-of-requires-2
 children-of-requires-2 c κs = search needs
 
--- src/lib.rt:109:1
 returns : tie.Need-returns
 returns c = rw (c .before .match .keys1) (c .children-of .ensures .0)
 
--- src/lib.rt:109:1
 returns-2 : tie.Need-returns-2
 returns-2 c = rw (c .before .match .keys2) (c .children-of2 .ensures .0)
 
--- src/lib.rt:109:1
 returns-3 : tie.Need-returns-3
 returns-3 c = one-row (tableIn (c .before .before .before .args .ws .now)) (c .before .before .before .args .n) (node (tableIn (c .before .before .before .args .ws .now)) (c .before .before .before .args .n)) (c .before .before .before .args .g) (c .before .before .before .pre .1) (c .match .rest .0 .1) (c .match .rest .1)
 

@@ -1,32 +1,23 @@
 use borrow.Author.Needs.{needs}
 use Rattle.shape.proofs.nodes_in.Statement.{statement}
 use Rattle.shape.proofs.nodes_in.Tie as tie
-use Rattle.shape.proofs.nodes_in.Reads as reads
-use Rattle.shape.proofs.nodes_in.Lts as lts
-use Rattle.index.proofs.nodes.Reads as nodes-reads
-use Rattle.index.proofs.slots.Reads as slots-reads
 use native.Mathlib.Omega.{arith}
 use Rattle.shape.proofs.Nodes.{nodes-is, slots-is}
 use Rattle.shape.proofs.Groups.{one-node}
 use Rattle.sheet.specs.Sheet.{tableIn}
 
--- src/lib.rt:249:9
 nodes-requires : tie.Need-nodes-requires
 nodes-requires c κs = search needs
 
--- src/lib.rt:249:9
 returns : tie.Need-returns
 returns c = rw (c .before .if1 .taken) (nodes-is (c .before .before .before .before .pre .0) (c .nodes .ensures))
 
--- src/lib.rt:252:9
 slots-requires : tie.Need-slots-requires
 slots-requires c κs = search needs
 
--- src/lib.rt:252:9
 returns-2 : tie.Need-returns-2
 returns-2 c = rw (c .before .if2 .taken) (slots-is (c .before .before .before .before .before .pre .0) (c .slots .ensures))
 
--- src/lib.rt:244:1
 returns-3 : tie.Need-returns-3
 returns-3 c = (one-node (tableIn (c .before .before .before .before .args .ws .now)) (c .before .before .before .before .args .r) (c .before .before .before .before .pre .1) (c .before .if1 .left) (c .if2 .left), omega arith)
 

@@ -1,35 +1,24 @@
 use borrow.Author.Needs.{needs}
 use Rattle.shape.proofs.row_len.Statement.{statement}
 use Rattle.shape.proofs.row_len.Tie as tie
-use Rattle.shape.proofs.row_len.Reads as reads
-use Rattle.shape.proofs.row_len.Lts as lts
-use Rattle.shape.proofs.len_in.Reads as len-in-reads
-use Rattle.shape.proofs.xs_in.Reads as xs-in-reads
-use Rattle.shape.proofs.ys_in.Reads as ys-in-reads
 use native.Mathlib.Omega.{arith}
 use Rattle.shape.proofs.Groups.{past-columns, past-rows, in-row}
 
--- src/lib.rt:317:13
 xs-in-requires : tie.Need-xs-in-requires
 xs-in-requires c κs = search needs
 
--- src/lib.rt:318:9
 returns : tie.Need-returns
 returns c = past-columns (c .before .before .before .before .pre) (c .before .before .before .before .args .y) (c .before .xs-in .ensures .0) (c .if1 .taken)
 
--- src/lib.rt:320:13
 ys-in-requires : tie.Need-ys-in-requires
 ys-in-requires c κs = search needs
 
--- src/lib.rt:321:9
 returns-2 : tie.Need-returns-2
 returns-2 c = past-rows (c .before .before .before .before .before .before .pre) (c .before .before .before .before .before .before .args .x) (c .before .ys-in .ensures .0) (c .if2 .taken)
 
--- src/lib.rt:323:5
 len-in-requires : tie.Need-len-in-requires
 len-in-requires c κs = (c .before .before .before .before .before .before .pre, omega (arith, c .before .before .if1 .left, c .before .before .before .xs-in .ensures .0), omega (arith, c .if2 .left, c .before .ys-in .ensures .0))
 
--- src/lib.rt:313:1
 returns-3 : tie.Need-returns-3
 returns-3 c = in-row (c .before .before .before .before .before .before .before .pre) (omega (arith, c .before .before .before .if1 .left, c .before .before .before .before .xs-in .ensures .0)) (omega (arith, c .before .if2 .left, c .before .before .ys-in .ensures .0)) (c .len-in .ensures)
 

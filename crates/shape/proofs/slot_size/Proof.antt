@@ -1,21 +1,14 @@
 use borrow.Author.Needs.{needs}
 use Rattle.shape.proofs.slot_size.Statement.{statement}
 use Rattle.shape.proofs.slot_size.Tie as tie
-use Rattle.shape.proofs.slot_size.Reads as reads
-use Rattle.shape.proofs.slot_size.Lts as lts
-use Rattle.shape.proofs.slot_node.Reads as slot-node-reads
-use Rattle.shape.proofs.steps_of.Reads as steps-of-reads
 use Rattle.shape.proofs.Slots.{slot-node, size-is}
 
--- src/lib.rt:169:22
 slot-node-requires : tie.Need-slot-node-requires
 slot-node-requires c κs = search needs
 
--- src/lib.rt:169:5
 steps-of-requires : tie.Need-steps-of-requires
 steps-of-requires c κs = slot-node (c .before .before .before .pre) (c .slot-node .ensures)
 
--- src/lib.rt:165:1
 returns : tie.Need-returns
 returns c = size-is (c .before .before .before .before .pre) (c .before .slot-node .ensures) (c .steps-of .ensures)
 

@@ -1,23 +1,16 @@
 use borrow.Author.Needs.{needs}
 use Rattle.shape.proofs.slot_step.Statement.{statement}
 use Rattle.shape.proofs.slot_step.Tie as tie
-use Rattle.shape.proofs.slot_step.Reads as reads
-use Rattle.shape.proofs.slot_step.Lts as lts
-use Rattle.index.proofs.meaning.Reads as meaning-reads
-use Rattle.shape.proofs.slot_variable.Reads as slot-variable-reads
 use native.Mathlib.Omega.{arith}
 use Rattle.shape.proofs.Nodes.{few}
 use Rattle.shape.proofs.Slots.{step-at}
 
--- src/lib.rt:183:24
 slot-variable-requires : tie.Need-slot-variable-requires
 slot-variable-requires c κs = search needs
 
--- src/lib.rt:183:5
 meaning-requires : tie.Need-meaning-requires
 meaning-requires c κs = (few (c .before .before .before .pre .0 .indexed), c .slot-variable .ensures .1, omega (arith, c .slot-variable .ensures .2))
 
--- src/lib.rt:179:1
 returns : tie.Need-returns
 returns c = step-at (c .before .before .before .before .pre .0) (c .before .before .before .before .pre .1) (c .before .slot-variable .ensures .0) (c .meaning .ensures)
 

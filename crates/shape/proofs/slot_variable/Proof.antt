@@ -1,26 +1,18 @@
 use borrow.Author.Needs.{needs}
 use Rattle.shape.proofs.slot_variable.Statement.{statement}
 use Rattle.shape.proofs.slot_variable.Tie as tie
-use Rattle.shape.proofs.slot_variable.Reads as reads
-use Rattle.shape.proofs.slot_variable.Lts as lts
-use Rattle.shape.proofs.first.Reads as first-reads
-use Rattle.shape.proofs.slot_node.Reads as slot-node-reads
 use native.Mathlib.Omega.{arith}
 use Rattle.shape.proofs.Slots.{slot-node, variable-is}
 
--- src/lib.rt:176:19
 slot-node-requires : tie.Need-slot-node-requires
 slot-node-requires c κs = search needs
 
--- src/lib.rt:176:5
 first-requires : tie.Need-first-requires
 first-requires c κs = slot-node (c .before .before .before .pre .0) (c .slot-node .ensures)
 
--- src/lib.rt:176:5
 add-result : tie.Need-add-result
 add-result c = omega (arith, variable-is (c .before .before .before .before .pre .0) (c .before .slot-node .ensures) (c .before .before .before .before .pre .1) (c .first .ensures) .2)
 
--- src/lib.rt:172:1
 returns : tie.Need-returns
 returns c = variable-is (c .before .before .before .before .pre .0) (c .before .slot-node .ensures) (c .before .before .before .before .pre .1) (c .first .ensures)
 

@@ -1,16 +1,11 @@
 use Rattle.shape.proofs.steps_of.Statement.{statement}
 use Rattle.shape.proofs.steps_of.Tie as tie
-use Rattle.shape.proofs.steps_of.Reads as reads
-use Rattle.shape.proofs.steps_of.Lts as lts
-use Rattle.index.proofs.node_word.Reads as node-word-reads
 use native.Mathlib.Omega.{arith}
 use Rattle.shape.proofs.Nodes.{few-node, steps-is}
 
--- src/lib.rt:29:5
 node-word-requires : tie.Need-node-word-requires
 node-word-requires c κs = (few-node (c .before .before .pre), omega arith)
 
--- src/lib.rt:25:1
 returns : tie.Need-returns
 returns c = steps-is (c .before .before .before .pre) (c .node-word .ensures)
 

@@ -1,21 +1,14 @@
 use borrow.Author.Needs.{needs}
 use Rattle.shape.proofs.width.Statement.{statement}
 use Rattle.shape.proofs.width.Tie as tie
-use Rattle.shape.proofs.width.Reads as reads
-use Rattle.shape.proofs.width.Lts as lts
-use Rattle.shape.proofs.child.Reads as child-reads
-use Rattle.shape.proofs.tasks_of.Reads as tasks-of-reads
 use Rattle.shape.proofs.Nodes.{in-child, width-is}
 
--- src/lib.rt:82:22
 child-requires : tie.Need-child-requires
 child-requires c κs = search needs
 
--- src/lib.rt:82:5
 tasks-of-requires : tie.Need-tasks-of-requires
 tasks-of-requires c κs = in-child (c .before .before .before .pre .0) (c .child .ensures .1)
 
--- src/lib.rt:78:1
 returns : tie.Need-returns
 returns c = width-is (c .before .before .before .before .pre .0) (c .before .before .before .before .args .y) (c .before .before .before .before .pre .1) (c .before .child .ensures .0) (c .tasks-of .ensures .0)
 

@@ -1,29 +1,20 @@
 use Rattle.shape.proofs.xs_in.Statement.{statement}
 use Rattle.shape.proofs.xs_in.Tie as tie
-use Rattle.shape.proofs.xs_in.Reads as reads
-use Rattle.shape.proofs.xs_in.Lts as lts
-use Rattle.shape.proofs.node_xs.Reads as node-xs-reads
-use Rattle.shape.proofs.slot_xs.Reads as slot-xs-reads
 use Rattle.shape.proofs.Groups.{single-rule, sizes-of, node-there, node-letter, slot-there, slot-letter, known-most}
 use Rattle.sheet.specs.Sheet.{tableIn}
 
--- src/lib.rt:275:9
 node-xs-requires : tie.Need-node-xs-requires
 node-xs-requires c κs = (node-there (c .before .before .before .pre) (c .if1 .taken), node-letter (c .before .before .before .pre) (c .if1 .taken))
 
--- src/lib.rt:275:9
 returns : tie.Need-returns
 returns c = known-most (rw (c .before .if1 .taken) (c .node-xs .ensures)) ((sizes-of (c .before .before .before .before .pre .indexed) (c .before .before .before .before .args .r) (c .before .before .before .before .args .n) (c .before .before .before .before .args .g)) .xs)
 
--- src/lib.rt:278:9
 slot-xs-requires : tie.Need-slot-xs-requires
 slot-xs-requires c κs = (slot-there (c .before .before .before .before .pre) (c .if2 .taken), slot-letter (c .before .before .before .before .pre) (c .if2 .taken))
 
--- src/lib.rt:278:9
 returns-2 : tie.Need-returns-2
 returns-2 c = known-most (rw (c .before .if2 .taken) (c .slot-xs .ensures)) ((sizes-of (c .before .before .before .before .before .pre .indexed) (c .before .before .before .before .before .args .r) (c .before .before .before .before .before .args .n) (c .before .before .before .before .before .args .g)) .xs)
 
--- src/lib.rt:270:1
 returns-3 : tie.Need-returns-3
 returns-3 c = known-most (single-rule (tableIn (c .before .before .before .before .args .ws .now)) (c .before .before .before .before .args .r) (c .before .before .before .before .args .n) (c .before .before .before .before .args .g) (c .before .before .before .before .pre .rule) (c .before .if1 .left) (c .if2 .left) (c .before .before .before .before .pre .group) .2) ((sizes-of (c .before .before .before .before .pre .indexed) (c .before .before .before .before .args .r) (c .before .before .before .before .args .n) (c .before .before .before .before .args .g)) .xs)
 

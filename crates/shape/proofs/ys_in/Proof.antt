@@ -1,29 +1,20 @@
 use Rattle.shape.proofs.ys_in.Statement.{statement}
 use Rattle.shape.proofs.ys_in.Tie as tie
-use Rattle.shape.proofs.ys_in.Reads as reads
-use Rattle.shape.proofs.ys_in.Lts as lts
-use Rattle.shape.proofs.node_ys.Reads as node-ys-reads
-use Rattle.shape.proofs.slot_ys.Reads as slot-ys-reads
 use Rattle.shape.proofs.Groups.{single-rule, sizes-of, node-there, node-letter, slot-letter, known-most}
 use Rattle.sheet.specs.Sheet.{tableIn}
 
--- src/lib.rt:288:9
 node-ys-requires : tie.Need-node-ys-requires
 node-ys-requires c κs = (node-there (c .before .before .before .pre) (c .if1 .taken), node-letter (c .before .before .before .pre) (c .if1 .taken))
 
--- src/lib.rt:288:9
 returns : tie.Need-returns
 returns c = known-most (rw (c .before .if1 .taken) (c .node-ys .ensures)) ((sizes-of (c .before .before .before .before .pre .indexed) (c .before .before .before .before .args .r) (c .before .before .before .before .args .n) (c .before .before .before .before .args .g)) .ys)
 
--- src/lib.rt:291:9
 slot-ys-requires : tie.Need-slot-ys-requires
 slot-ys-requires c κs = slot-letter (c .before .before .before .before .pre) (c .if2 .taken)
 
--- src/lib.rt:291:9
 returns-2 : tie.Need-returns-2
 returns-2 c = known-most (rw (c .before .if2 .taken) (c .slot-ys .ensures)) ((sizes-of (c .before .before .before .before .before .pre .indexed) (c .before .before .before .before .before .args .r) (c .before .before .before .before .before .args .n) (c .before .before .before .before .before .args .g)) .ys)
 
--- src/lib.rt:283:1
 returns-3 : tie.Need-returns-3
 returns-3 c = known-most (single-rule (tableIn (c .before .before .before .before .args .ws .now)) (c .before .before .before .before .args .r) (c .before .before .before .before .args .n) (c .before .before .before .before .args .g) (c .before .before .before .before .pre .rule) (c .before .if1 .left) (c .if2 .left) (c .before .before .before .before .pre .group) .3) ((sizes-of (c .before .before .before .before .pre .indexed) (c .before .before .before .before .args .r) (c .before .before .before .before .args .n) (c .before .before .before .before .args .g)) .ys)
 

@@ -3,27 +3,21 @@ use borrow.Author.Needs.{needs}
 use Rattle.table.proofs.body_byte.Statement.{statement}
 use Rattle.table.proofs.Access.{body-none, body-far, body-there}
 
--- src/lib.rt:189:9
 returns : tie.Need-returns
 returns c = let a = c .before .before .args in body-none (a .a .now) (a .n) (a .m) (a .j) (c .if1 .taken)
 
--- src/lib.rt:192:9
 returns-2 : tie.Need-returns-2
 returns-2 c = let a = c .before .before .before .args in body-far (a .a .now) (a .n) (a .m) (a .j) (c .before .if1 .left) (c .if2 .taken)
 
--- src/lib.rt:194:16
 mul-byte-at : tie.Need-mul-byte-at
 mul-byte-at c = search needs
 
--- src/lib.rt:194:16
 add-byte-at : tie.Need-add-byte-at
 add-byte-at c = search needs
 
--- src/lib.rt:194:5
 byte-at-requires : tie.Need-byte-at-requires
 byte-at-requires c κs = search needs
 
--- src/lib.rt:185:1
 returns-3 : tie.Need-returns-3
 returns-3 c = let a = c .before .before .before .before .args in body-there (a .a .now) (a .n) (a .m) (a .j) (c .before .before .if1 .left) (c .before .if2 .left) (c .byte-at .ensures)
 

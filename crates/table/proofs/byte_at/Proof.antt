@@ -3,15 +3,12 @@ use borrow.Author.Needs.{needs}
 use Rattle.table.proofs.byte_at.Statement.{statement}
 use Rattle.table.proofs.Access.{past-last}
 
--- src/lib.rt:153:22
 shared-slice-read-result : tie.Need-shared-slice-read-result
 shared-slice-read-result c = search needs
 
--- src/lib.rt:150:1
 returns : tie.Need-returns
 returns c = search needs
 
--- src/lib.rt:150:1
 returns-2 : tie.Need-returns-2
 returns-2 c = let a = c .before .args in past-last (a .a .now) (a .i) (c .if1 .left)
 

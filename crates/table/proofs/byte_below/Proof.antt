@@ -4,19 +4,15 @@ use Rattle.table.proofs.byte_below.Statement.{statement}
 use native.Mathlib.Omega.{arith}
 use Rattle.table.proofs.Access.{below-in, below-past}
 
--- src/lib.rt:179:16
 byte-at-requires : tie.Need-byte-at-requires
 byte-at-requires c κs = search needs
 
--- src/lib.rt:179:16
 cast-result : tie.Need-cast-result
 cast-result c = search needs
 
--- src/lib.rt:179:9
 returns : tie.Need-returns
 returns c = let a = c .before .before .before .args in (below-in (a .a .now) (a .n) (a .i) (c .byte-at .ensures) (c .before .if1 .taken), omega arith)
 
--- src/lib.rt:175:1
 returns-2 : tie.Need-returns-2
 returns-2 c = let a = c .before .before .args in (below-past (a .a .now) (a .n) (a .i) (c .if1 .left), omega arith)
 

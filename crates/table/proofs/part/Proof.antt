@@ -3,51 +3,39 @@ use borrow.Author.Needs.{needs}
 use Rattle.table.proofs.part.Statement.{statement}
 use Rattle.table.proofs.Access.{part-past, part-short, part-whole}
 
--- src/lib.rt:168:16
 sub-result : tie.Need-sub-result
 sub-result c = search needs
 
--- src/lib.rt:168:16
 part-result-start : tie.Need-part-result-start
 part-result-start c = search needs
 
--- src/lib.rt:168:16
 part-result-end : tie.Need-part-result-end
 part-result-end c = search needs
 
--- src/lib.rt:168:9
 returns : tie.Need-returns
 returns c = let a = c .before .before .args in part-past (a .s .now) (a .start) (a .size) (c .before .if1 .taken)
 
--- src/lib.rt:171:16
 part-result-start-2 : tie.Need-part-result-start-2
 part-result-start-2 c = search needs
 
--- src/lib.rt:171:16
 part-result-end-2 : tie.Need-part-result-end-2
 part-result-end-2 c = search needs
 
--- src/lib.rt:171:9
 returns-2 : tie.Need-returns-2
 returns-2 c = let a = c .before .before .before .args in part-short (a .s .now) (a .start) (a .size) (c .before .if2 .taken)
 
--- src/lib.rt:173:13
 add-e : tie.Need-add-e
 add-e c = search needs
 
--- src/lib.rt:174:5
 sub-result-2 : tie.Need-sub-result-2
 sub-result-2 c = search needs
 
--- src/lib.rt:174:5
 part-result-start-3 : tie.Need-part-result-start-3
 part-result-start-3 c = search needs
 
--- src/lib.rt:174:5
 part-result-end-3 : tie.Need-part-result-end-3
 part-result-end-3 c = search needs
 
--- src/lib.rt:163:1
 returns-3 : tie.Need-returns-3
 returns-3 c = let a = c .before .before .before .args in part-whole (a .s .now) (a .start) (a .size)
 

@@ -3,19 +3,15 @@ use borrow.Author.Needs.{needs}
 use Rattle.table.proofs.question_seven.Statement.{statement}
 use Rattle.table.proofs.Whole.{seventh-met, seventh-unmet}
 
--- src/lib.rt:109:16
 both-requires : tie.Need-both-requires
 both-requires c κs = search needs
 
--- src/lib.rt:109:8
 both-requires-2 : tie.Need-both-requires-2
 both-requires-2 c κs = search needs
 
--- src/lib.rt:106:1
 returns : tie.Need-returns
 returns c = let a = c .before .before .before .args in seventh-met (a .a) (a .b) (a .c) (c .before .both2 .ensures) (c .before .before .both .ensures) (c .if1 .taken)
 
--- src/lib.rt:106:1
 returns-2 : tie.Need-returns-2
 returns-2 c = let a = c .before .before .before .args in seventh-unmet (a .a) (a .b) (a .c) (c .before .both2 .ensures) (c .before .before .both .ensures) (c .if1 .left)
 

@@ -6,15 +6,12 @@ use mathlib.Core.List.{[], _∷_}
 use Prim.Native.Nat.{ℕ}
 use Rattle.table.proofs.Access.{below-in, below-past}
 
--- src/lib.rt:169:13
 word-at-requires : tie.Need-word-at-requires
 word-at-requires c κs = search needs
 
--- src/lib.rt:170:9
 returns : tie.Need-returns
 returns c = let a = c .before .before .before .args in ap (λ (w : ℕ). w ∷ []) (below-in (a .a .now) (a .n) (a .i) (c .word-at .ensures) (c .before .if1 .taken))
 
--- src/lib.rt:165:1
 returns-2 : tie.Need-returns-2
 returns-2 c = let a = c .before .before .args in ap (λ (w : ℕ). w ∷ []) (below-past (a .a .now) (a .n) (a .i) (c .if1 .left))
 

@@ -3,15 +3,12 @@ use borrow.Author.Needs.{needs}
 use Rattle.table.proofs.task_at.Statement.{statement}
 use Rattle.table.proofs.Access.{task-step, task-job}
 
--- src/lib.rt:210:9
 returns : tie.Need-returns
 returns c = let a = c .before .args in task-step (a .steps) (a .k) (c .if1 .taken)
 
--- src/lib.rt:212:15
 cast-t6 : tie.Need-cast-t6
 cast-t6 c = search needs
 
--- src/lib.rt:206:1
 returns-2 : tie.Need-returns-2
 returns-2 c = let a = c .before .args in task-job (a .steps) (a .k) (c .if1 .left)
 

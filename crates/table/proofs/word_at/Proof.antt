@@ -3,19 +3,15 @@ use borrow.Author.Needs.{needs}
 use Rattle.table.proofs.word_at.Statement.{statement}
 use Rattle.table.proofs.Access.{past-last}
 
--- src/lib.rt:147:22
 mul-result : tie.Need-mul-result
 mul-result c = search needs
 
--- src/lib.rt:147:22
 shared-slice-read-result : tie.Need-shared-slice-read-result
 shared-slice-read-result c = search needs
 
--- src/lib.rt:144:1
 returns : tie.Need-returns
 returns c = search needs
 
--- src/lib.rt:144:1
 returns-2 : tie.Need-returns-2
 returns-2 c = let a = c .before .args in past-last (a .a .now) (a .i) (c .if1 .left)
 

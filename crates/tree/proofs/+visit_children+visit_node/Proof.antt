@@ -58,7 +58,6 @@ abbrev visit-node-below : ℕ → In 2 visit-node-kinds.ps
 visit-node-below t =
     and 2 visit-node-kinds.ps (falls 2 visit-node-kinds.ps _<_ μ-visit-node t) visit-node.Pre
 
--- src/lib.rt:292:9
 visit-children-returns : (t : ℕ) → visit-children-lts.Need-returns (
   child-label-reads.Asked,
   child-label-reads.Learnt,
@@ -69,7 +68,6 @@ visit-children-returns : (t : ℕ) → visit-children-lts.Need-returns (
 ) (visit-children-at t) visit-children.Post
 visit-children-returns t c = visited-over (c .before .before .before .before .pre .1 .2) (c .if1 .taken)
 
--- src/lib.rt:295:9
 visit-children-returns-2 : (t : ℕ) → visit-children-lts.Need-returns-2 (
   child-label-reads.Asked,
   child-label-reads.Learnt,
@@ -80,7 +78,6 @@ visit-children-returns-2 : (t : ℕ) → visit-children-lts.Need-returns-2 (
 ) (visit-children-at t) visit-children.Post
 visit-children-returns-2 t c = parts-none (tableIn (c .before .before .before .before .before .args .ws .now)) (c .before .before .before .before .before .args .left) (c .before .before .before .before .before .args .parent) (c .before .before .before .before .before .args .i) (labelIn (c .before .before .before .before .before .args .l)) (c .before .before .before .before .before .args .m) (c .before .before .before .before .before .pre .1 .2) (c .if2 .taken)
 
--- src/lib.rt:297:9
 visit-children-child-label-requires : (t : ℕ) → visit-children-lts.Need-child-label-requires (
   child-label-reads.Asked,
   child-label-reads.Learnt,
@@ -91,7 +88,6 @@ visit-children-child-label-requires : (t : ℕ) → visit-children-lts.Need-chil
 ) (visit-children-at t) visit-children.Post
 visit-children-child-label-requires t c κs = (c .before .before .before .before .before .pre .1 .0, c .before .before .before .before .before .pre .1 .1, omega (arith, c .before .before .before .before .before .pre .1 .3, ne-lt (zero-least (c .before .before .before .before .before .args .m)) (λ e. c .if2 .left (sym e))))
 
--- src/lib.rt:298:9
 visit-children-visit-node-requires : (t : ℕ) → visit-children-lts.Need-visit-node-requires (
   child-label-reads.Asked,
   child-label-reads.Learnt,
@@ -102,7 +98,6 @@ visit-children-visit-node-requires : (t : ℕ) → visit-children-lts.Need-visit
 ) (visit-children-at t) visit-children.Post
 visit-children-visit-node-requires t c κs = (omega (arith, c .before .before .before .before .before .before .before .pre .0), (c .before .before .before .before .before .before .before .pre .1 .0, child-inside (tableIn (c .before .before .before .before .before .before .before .args .ws .now)) (labelIn (c .before .before .before .before .before .before .before .args .l)) (c .before .before .before .before .before .before .before .args .i) (c .before .child-label .result) (c .before .child-label .ensures), c .before .before .before .before .before .before .before .pre .1 .2, omega (arith, ne-lt (c .before .before .before .before .before .before .before .pre .1 .2 .nodes) (c .before .before .before .if1 .left)), c .before .before .before .before .before .before .before .pre .1 .4))
 
--- src/lib.rt:299:49
 visit-children-add-visit-children : (t : ℕ) → visit-children-lts.Need-add-visit-children (
   child-label-reads.Asked,
   child-label-reads.Learnt,
@@ -113,7 +108,6 @@ visit-children-add-visit-children : (t : ℕ) → visit-children-lts.Need-add-vi
 ) (visit-children-at t) visit-children.Post
 visit-children-add-visit-children t c = omega (arith, c .before .before .before .before .before .before .before .before .before .before .before .pre .1 .3)
 
--- src/lib.rt:299:56
 visit-children-sub-visit-children : (t : ℕ) → visit-children-lts.Need-sub-visit-children (
   child-label-reads.Asked,
   child-label-reads.Learnt,
@@ -124,7 +118,6 @@ visit-children-sub-visit-children : (t : ℕ) → visit-children-lts.Need-sub-vi
 ) (visit-children-at t) visit-children.Post
 visit-children-sub-visit-children t c = ne-lt (zero-least (c .before .before .before .before .before .before .before .before .before .before .before .args .m)) (λ e. c .before .before .before .before .before .before .if2 .left (sym e))
 
--- src/lib.rt:299:5
 visit-children-visit-children-requires : (t : ℕ) → visit-children-lts.Need-visit-children-requires (
   child-label-reads.Asked,
   child-label-reads.Learnt,
@@ -135,7 +128,6 @@ visit-children-visit-children-requires : (t : ℕ) → visit-children-lts.Need-v
 ) (visit-children-at t) visit-children.Post
 visit-children-visit-children-requires t c κs = (omega (arith, c .before .before .before .before .before .before .before .before .before .before .before .pre .0, ne-lt (zero-least (c .before .before .before .before .before .before .before .before .before .before .before .args .m)) (λ e. c .before .before .before .before .before .before .if2 .left (sym e))), (c .before .before .before .before .before .before .before .before .before .before .before .pre .1 .0, c .before .before .before .before .before .before .before .before .before .before .before .pre .1 .1, c .before .before .before .visit-node .ensures .small, omega (arith, c .before .before .before .before .before .before .before .before .before .before .before .pre .1 .3, ne-lt (zero-least (c .before .before .before .before .before .before .before .before .before .before .before .args .m)) (λ e. c .before .before .before .before .before .before .if2 .left (sym e))), c .before .before .before .before .before .before .before .before .before .before .before .pre .1 .4))
 
--- src/lib.rt:278:1
 visit-children-same-length : (t : ℕ) → visit-children-lts.Need-same-length (
   child-label-reads.Asked,
   child-label-reads.Learnt,
@@ -146,7 +138,6 @@ visit-children-same-length : (t : ℕ) → visit-children-lts.Need-same-length (
 ) (visit-children-at t) visit-children.Post
 visit-children-same-length t c = search needs
 
--- src/lib.rt:278:1
 visit-children-returns-3 : (t : ℕ) → visit-children-lts.Need-returns-3 (
   child-label-reads.Asked,
   child-label-reads.Learnt,
@@ -157,7 +148,6 @@ visit-children-returns-3 : (t : ℕ) → visit-children-lts.Need-returns-3 (
 ) (visit-children-at t) visit-children.Post
 visit-children-returns-3 t c = parts-more (tableIn (c .before .before .before .before .before .before .before .before .before .before .before .before .before .before .args .ws .now)) (c .before .before .before .before .before .before .before .before .before .before .before .before .before .before .args .left) (c .before .before .before .before .before .before .before .before .before .before .before .before .before .before .args .parent) (c .before .before .before .before .before .before .before .before .before .before .before .before .before .before .args .i) (labelIn (c .before .before .before .before .before .before .before .before .before .before .before .before .before .before .args .l)) (c .before .before .before .before .before .before .before .before .before .before .before .before .before .before .args .m) (c .before .before .before .before .before .before .before .before .before .if2 .left) (rw (c .before .before .before .before .before .before .before .before .child-label .ensures) at (c .before .before .before .before .before .before .visit-node .ensures)) (c .before .before .visit-children .ensures)
 
--- src/lib.rt:261:9
 visit-node-returns : (t : ℕ) → visit-node-lts.Need-returns (
   depth-reads.Asked,
   depth-reads.Learnt,
@@ -176,7 +166,6 @@ visit-node-returns : (t : ℕ) → visit-node-lts.Need-returns (
 ) (visit-node-at t) visit-node.Post
 visit-node-returns t c = part-full (tableIn (c .before .before .before .before .args .ws .now)) (c .before .before .before .before .args .left) (c .before .before .before .before .args .parent) (c .before .before .before .before .args .l) (c .before .before .before .before .pre .1 .2) (c .if1 .taken)
 
--- src/lib.rt:267:17
 visit-node-depth-requires : (t : ℕ) → visit-node-lts.Need-depth-requires (
   depth-reads.Asked,
   depth-reads.Learnt,
@@ -195,7 +184,6 @@ visit-node-depth-requires : (t : ℕ) → visit-node-lts.Need-depth-requires (
 ) (visit-node-at t) visit-node.Post
 visit-node-depth-requires t c κs = search needs
 
--- src/lib.rt:267:17
 visit-node-sub-depth : (t : ℕ) → visit-node-lts.Need-sub-depth (
   depth-reads.Asked,
   depth-reads.Learnt,
@@ -214,7 +202,6 @@ visit-node-sub-depth : (t : ℕ) → visit-node-lts.Need-sub-depth (
 ) (visit-node-at t) visit-node.Post
 visit-node-sub-depth t c = omega (arith, c .depth .ensures, c .before .before .before .before .before .pre .1 .4)
 
--- src/lib.rt:268:9
 visit-node-is-inner-requires : (t : ℕ) → visit-node-lts.Need-is-inner-requires (
   depth-reads.Asked,
   depth-reads.Learnt,
@@ -233,7 +220,6 @@ visit-node-is-inner-requires : (t : ℕ) → visit-node-lts.Need-is-inner-requir
 ) (visit-node-at t) visit-node.Post
 visit-node-is-inner-requires t c κs = search needs
 
--- src/lib.rt:269:9
 visit-node-put-record-requires : (t : ℕ) → visit-node-lts.Need-put-record-requires (
   depth-reads.Asked,
   depth-reads.Learnt,
@@ -252,7 +238,6 @@ visit-node-put-record-requires : (t : ℕ) → visit-node-lts.Need-put-record-re
 ) (visit-node-at t) visit-node.Post
 visit-node-put-record-requires t c κs = ne-lt (c .before .before .before .before .before .before .before .before .pre .1 .3) (c .before .before .before .before .if1 .left)
 
--- src/lib.rt:270:9
 visit-node-with-slot-requires : (t : ℕ) → visit-node-lts.Need-with-slot-requires (
   depth-reads.Asked,
   depth-reads.Learnt,
@@ -271,7 +256,6 @@ visit-node-with-slot-requires : (t : ℕ) → visit-node-lts.Need-with-slot-requ
 ) (visit-node-at t) visit-node.Post
 visit-node-with-slot-requires t c κs = (c .before .before .before .before .before .before .before .before .before .before .before .pre .1 .2, ne-lt (c .before .before .before .before .before .before .before .before .before .before .before .pre .1 .3) (c .before .before .before .before .before .before .before .if1 .left))
 
--- src/lib.rt:270:9
 visit-node-same-length : (t : ℕ) → visit-node-lts.Need-same-length (
   depth-reads.Asked,
   depth-reads.Learnt,
@@ -290,7 +274,6 @@ visit-node-same-length : (t : ℕ) → visit-node-lts.Need-same-length (
 ) (visit-node-at t) visit-node.Post
 visit-node-same-length t c = search needs
 
--- src/lib.rt:270:9
 visit-node-returns-2 : (t : ℕ) → visit-node-lts.Need-returns-2 (
   depth-reads.Asked,
   depth-reads.Learnt,
@@ -309,7 +292,6 @@ visit-node-returns-2 : (t : ℕ) → visit-node-lts.Need-returns-2 (
 ) (visit-node-at t) visit-node.Post
 visit-node-returns-2 t c = part-slot (tableIn (c .before .before .before .before .before .before .before .before .before .before .before .before .args .ws .now)) (c .before .before .before .before .before .before .before .before .before .before .before .before .args .left) (c .before .before .before .before .before .before .before .before .before .before .before .before .args .parent) (c .before .before .before .before .before .before .before .before .before .before .before .before .args .l) (said-no (c .before .before .before .before .before .before .is-inner .ensures) (c .before .before .before .before .before .if2 .taken)) (ne-lt (c .before .before .before .before .before .before .before .before .before .before .before .before .pre .1 .3) (c .before .before .before .before .before .before .before .before .if1 .left)) (rw (c .before .before .before .before .before .before .before .depth .ensures) at (c .before .before .before .put-record .ensures)) (c .with-slot .ensures)
 
--- src/lib.rt:272:9
 visit-node-child-count-requires : (t : ℕ) → visit-node-lts.Need-child-count-requires (
   depth-reads.Asked,
   depth-reads.Learnt,
@@ -328,7 +310,6 @@ visit-node-child-count-requires : (t : ℕ) → visit-node-lts.Need-child-count-
 ) (visit-node-at t) visit-node.Post
 visit-node-child-count-requires t c κs = c .before .before .before .before .before .before .before .pre .1 .0
 
--- src/lib.rt:273:5
 visit-node-put-record-requires-2 : (t : ℕ) → visit-node-lts.Need-put-record-requires-2 (
   depth-reads.Asked,
   depth-reads.Learnt,
@@ -347,7 +328,6 @@ visit-node-put-record-requires-2 : (t : ℕ) → visit-node-lts.Need-put-record-
 ) (visit-node-at t) visit-node.Post
 visit-node-put-record-requires-2 t c κs = ne-lt (c .before .before .before .before .before .before .before .before .before .pre .1 .3) (c .before .before .before .before .before .if1 .left)
 
--- src/lib.rt:274:29
 visit-node-with-inner-requires : (t : ℕ) → visit-node-lts.Need-with-inner-requires (
   depth-reads.Asked,
   depth-reads.Learnt,
@@ -366,7 +346,6 @@ visit-node-with-inner-requires : (t : ℕ) → visit-node-lts.Need-with-inner-re
 ) (visit-node-at t) visit-node.Post
 visit-node-with-inner-requires t c κs = (c .before .before .before .before .before .before .before .before .before .before .before .before .before .pre .1 .0, c .before .before .before .before .before .before .before .before .before .before .before .before .before .pre .1 .2, ne-lt (c .before .before .before .before .before .before .before .before .before .before .before .before .before .pre .1 .3) (c .before .before .before .before .before .before .before .before .before .if1 .left))
 
--- src/lib.rt:274:51
 visit-node-sub-visit-children : (t : ℕ) → visit-node-lts.Need-sub-visit-children (
   depth-reads.Asked,
   depth-reads.Learnt,
@@ -385,7 +364,6 @@ visit-node-sub-visit-children : (t : ℕ) → visit-node-lts.Need-sub-visit-chil
 ) (visit-node-at t) visit-node.Post
 visit-node-sub-visit-children t c = above-zero (c .before .before .before .before .before .before .before .before .before .before .before .before .before .before .args .left) (someIn (membersIn (c .before .before .before .before .before .before .before .before .before .before .before .before .before .before .args .l .jobs))) (said-yes (c .before .before .before .before .before .before .before .before .is-inner .ensures) (c .before .before .before .before .before .before .before .if2 .left))
 
--- src/lib.rt:274:5
 visit-node-visit-children-requires : (t : ℕ) → visit-node-lts.Need-visit-children-requires (
   depth-reads.Asked,
   depth-reads.Learnt,
@@ -404,7 +382,6 @@ visit-node-visit-children-requires : (t : ℕ) → visit-node-lts.Need-visit-chi
 ) (visit-node-at t) visit-node.Post
 visit-node-visit-children-requires t c κs = (omega (arith, c .before .before .before .before .before .before .before .before .before .before .before .before .before .before .pre .0, above-zero (c .before .before .before .before .before .before .before .before .before .before .before .before .before .before .args .left) (someIn (membersIn (c .before .before .before .before .before .before .before .before .before .before .before .before .before .before .args .l .jobs))) (said-yes (c .before .before .before .before .before .before .before .before .is-inner .ensures) (c .before .before .before .before .before .before .before .if2 .left)), c .before .before .before .before .before .before .child-count .ensures .1), (c .before .before .before .before .before .before .before .before .before .before .before .before .before .before .pre .1 .0, c .before .before .before .before .before .before .before .before .before .before .before .before .before .before .pre .1 .1, c .with-inner .ensures .3, omega (arith, c .before .before .before .before .before .before .child-count .ensures .1), omega (arith, c .before .before .before .before .before .before .before .before .before .before .before .before .before .before .pre .1 .4)))
 
--- src/lib.rt:249:1
 visit-node-same-length-2 : (t : ℕ) → visit-node-lts.Need-same-length-2 (
   depth-reads.Asked,
   depth-reads.Learnt,
@@ -423,7 +400,6 @@ visit-node-same-length-2 : (t : ℕ) → visit-node-lts.Need-same-length-2 (
 ) (visit-node-at t) visit-node.Post
 visit-node-same-length-2 t c = search needs
 
--- src/lib.rt:249:1
 visit-node-returns-3 : (t : ℕ) → visit-node-lts.Need-returns-3 (
   depth-reads.Asked,
   depth-reads.Learnt,

@@ -1,30 +1,21 @@
 use borrow.Author.Needs.{needs}
 use Rattle.tree.proofs.child_count.Statement.{statement}
 use Rattle.tree.proofs.child_count.Tie as tie
-use Rattle.tree.proofs.child_count.Reads as reads
-use Rattle.tree.proofs.child_count.Lts as lts
-use Rattle.tree.proofs.has_some.Reads as has-some-reads
-use Rattle.tree.proofs.longest.Reads as longest-reads
 use Rattle.tree.proofs.Loops.{one-child, no-child, some-children}
 use Rattle.sheet.specs.Sheet.{tableIn}
 
--- src/lib.rt:149:9
 longest-requires : tie.Need-longest-requires
 longest-requires c κs = search needs
 
--- src/lib.rt:151:12
 has-some-requires : tie.Need-has-some-requires
 has-some-requires c κs = search needs
 
--- src/lib.rt:152:13
 returns : tie.Need-returns
 returns c = one-child (tableIn (c .before .before .before .before .before .args .ws .now)) (c .before .before .before .before .before .args .l) (c .before .before .before .before .before .pre) (c .before .before .before .longest .ensures) (c .before .before .if1 .taken) (c .before .has-some .ensures) (c .if2 .taken)
 
--- src/lib.rt:145:1
 returns-2 : tie.Need-returns-2
 returns-2 c = no-child (tableIn (c .before .before .before .before .before .args .ws .now)) (c .before .before .before .before .before .args .l) (c .before .before .before .before .before .pre) (c .before .before .before .longest .ensures) (c .before .before .if1 .taken) (c .before .has-some .ensures) (c .if2 .left)
 
--- src/lib.rt:145:1
 returns-3 : tie.Need-returns-3
 returns-3 c = some-children (tableIn (c .before .before .before .args .ws .now)) (c .before .before .before .args .l) (c .before .before .before .pre) (c .before .longest .ensures) (c .if1 .left)
 

@@ -1,11 +1,6 @@
 use borrow.Author.Needs.{needs}
 use Rattle.tree.proofs.child_label.Statement.{statement}
 use Rattle.tree.proofs.child_label.Tie as tie
-use Rattle.tree.proofs.child_label.Reads as reads
-use Rattle.tree.proofs.child_label.Lts as lts
-use Rattle.sheet.proofs.methods.Reads as methods-reads
-use Rattle.tree.proofs.inherited.Reads as inherited-reads
-use Rattle.tree.proofs.with_method.Reads as with-method-reads
 use native.Mathlib.Omega.{arith}
 use Rattle.tree.proofs.Loops.{Gathering, gathering-none, gathering-again, gathering-all}
 use Rattle.sheet.specs.Sheet.{tableIn}
@@ -19,35 +14,27 @@ Inv-loop ws l i child₀ m₀ child m = Gathering (tableIn ws) (labelIn l) i m c
 abbrev μ-loop : tie.MeasureT-loop
 μ-loop ws l i child₀ m₀ child m = length ((tableIn ws) .methods) - m
 
--- src/lib.rt:99:16
 inherited-requires : tie.Need-inherited-requires Inv-loop μ-loop
 inherited-requires c κs = search needs
 
--- src/lib.rt:103:5
 loop-holds : tie.Need-loop-holds Inv-loop μ-loop
 loop-holds c = gathering-none (tableIn (c .before .before .args .ws .now)) (c .before .before .pre .0) (c .before .before .args .l) (c .before .before .args .i) _ (c .inherited .ensures)
 
--- src/lib.rt:103:15
 methods-requires : tie.Need-methods-requires Inv-loop μ-loop
 methods-requires c κs = search needs
 
--- src/lib.rt:104:9
 with-method-requires : tie.Need-with-method-requires Inv-loop μ-loop
 with-method-requires c κs = (omega (arith, c .if1 .taken, c .before .methods .ensures, c .before .before .before .before .before .pre .0 .limits .methods), c .before .before .before .before .before .pre .2)
 
--- src/lib.rt:105:9
 add-m : tie.Need-add-m Inv-loop μ-loop
 add-m c = omega (arith, c .before .if1 .taken, c .before .before .methods .ensures, c .before .before .before .before .before .before .pre .0 .limits .methods)
 
--- src/lib.rt:103:5
 loop-less : tie.Need-loop-less Inv-loop μ-loop
 loop-less c = omega (arith, c .before .if1 .taken, c .before .before .methods .ensures)
 
--- src/lib.rt:103:5
 loop-again : tie.Need-loop-again Inv-loop μ-loop
 loop-again c = gathering-again (c .before .before .before .before .before .before .args .l) (c .before .before .before .before .before .before .pre .0) (c .before .before .before .loop .inv) (c .before .before .methods .ensures) (c .before .if1 .taken) (c .with-method .ensures)
 
--- src/lib.rt:94:1
 returns : tie.Need-returns Inv-loop μ-loop
 returns c = gathering-all (c .before .before .before .before .before .pre .0) (c .before .before .before .before .before .pre .1) (c .before .before .loop .inv) (c .before .methods .ensures) (c .if1 .left)
 

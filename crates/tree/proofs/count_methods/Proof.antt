@@ -1,10 +1,6 @@
 use borrow.Author.Needs.{needs}
 use Rattle.tree.proofs.count_methods.Statement.{statement}
 use Rattle.tree.proofs.count_methods.Tie as tie
-use Rattle.tree.proofs.count_methods.Reads as reads
-use Rattle.tree.proofs.count_methods.Lts as lts
-use Rattle.sheet.proofs.methods.Reads as methods-reads
-use Rattle.tree.proofs.one_more.Reads as one-more-reads
 use native.Mathlib.Omega.{arith}
 use Rattle.tree.proofs.Loops.{Counting, counting-most, counting-again, counting-all}
 use Rattle.sheet.specs.Sheet.{tableIn}
@@ -18,31 +14,24 @@ Inv-loop ws jobs n₀ m₀ n m = Counting (tableIn ws) jobs m n
 abbrev μ-loop : tie.MeasureT-loop
 μ-loop ws jobs n₀ m₀ n m = length ((tableIn ws) .methods) - m
 
--- src/lib.rt:175:5
 loop-holds : tie.Need-loop-holds Inv-loop μ-loop
 loop-holds c = record { at = omega arith; is = refl }
 
--- src/lib.rt:175:15
 methods-requires : tie.Need-methods-requires Inv-loop μ-loop
 methods-requires c κs = search needs
 
--- src/lib.rt:176:9
 one-more-requires : tie.Need-one-more-requires Inv-loop μ-loop
 one-more-requires c κs = (omega (arith, c .if1 .taken, c .before .methods .ensures, c .before .before .before .before .pre .limits .methods), counting-most (c .before .before .loop .inv))
 
--- src/lib.rt:177:9
 add-m : tie.Need-add-m Inv-loop μ-loop
 add-m c = omega (arith, c .before .if1 .taken, c .before .before .methods .ensures, c .before .before .before .before .before .pre .limits .methods)
 
--- src/lib.rt:175:5
 loop-less : tie.Need-loop-less Inv-loop μ-loop
 loop-less c = omega (arith, c .before .if1 .taken, c .before .before .methods .ensures)
 
--- src/lib.rt:175:5
 loop-again : tie.Need-loop-again Inv-loop μ-loop
 loop-again c = counting-again (c .before .before .before .loop .inv) (c .before .before .methods .ensures) (c .before .if1 .taken) (c .one-more .ensures)
 
--- src/lib.rt:169:1
 returns : tie.Need-returns Inv-loop μ-loop
 returns c = counting-all (c .before .before .before .before .pre) (c .before .before .loop .inv) (c .before .methods .ensures) (c .if1 .left)
 

@@ -1,10 +1,7 @@
 use Rattle.tree.proofs.has_some.Statement.{statement}
 use Rattle.tree.proofs.has_some.Tie as tie
-use Rattle.tree.proofs.has_some.Reads as reads
-use Rattle.tree.proofs.has_some.Lts as lts
 use Rattle.tree.proofs.Loops.{some-test}
 
--- src/lib.rt:138:1
 returns : tie.Need-returns
 returns c = some-test (c .args .w) (c .fits .w .fits)
 

@@ -1,15 +1,11 @@
 use Rattle.tree.proofs.inherited.Statement.{statement}
 use Rattle.tree.proofs.inherited.Tie as tie
-use Rattle.tree.proofs.inherited.Reads as reads
-use Rattle.tree.proofs.inherited.Lts as lts
 use Rattle.lists.proofs.Bool.{eqb-other}
 use Rattle.tree.proofs.Loops.{eqb-at}
 
--- src/lib.rt:87:1
 returns : tie.Need-returns
 returns c = rw (eqb-at (c .if1 .taken))
 
--- src/lib.rt:87:1
 returns-2 : tie.Need-returns-2
 returns-2 c = rw (eqb-other (c .before .args .i) 0 (c .if1 .left))
 

@@ -1,21 +1,15 @@
 use borrow.Author.Needs.{needs}
 use Rattle.tree.proofs.is_inner.Statement.{statement}
 use Rattle.tree.proofs.is_inner.Tie as tie
-use Rattle.tree.proofs.is_inner.Reads as reads
-use Rattle.tree.proofs.is_inner.Lts as lts
-use Rattle.tree.proofs.has_some.Reads as has-some-reads
 use Rattle.tree.proofs.Loops.{inner-none, inner-some}
 use Rattle.tree.specs.Visit.{membersIn, someIn}
 
--- src/lib.rt:187:9
 returns : tie.Need-returns
 returns c = inner-none (someIn (membersIn (c .before .args .jobs))) (c .if1 .taken)
 
--- src/lib.rt:189:5
 has-some-requires : tie.Need-has-some-requires
 has-some-requires c κs = search needs
 
--- src/lib.rt:183:1
 returns-2 : tie.Need-returns-2
 returns-2 c = inner-some (c .before .if1 .left) (c .has-some .ensures)
 

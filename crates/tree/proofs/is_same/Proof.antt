@@ -1,8 +1,6 @@
 use borrow.Author.Needs.{needs}
 use Rattle.tree.proofs.is_same.Statement.{statement}
 use Rattle.tree.proofs.is_same.Tie as tie
-use Rattle.tree.proofs.is_same.Reads as reads
-use Rattle.tree.proofs.is_same.Lts as lts
 use native.Mathlib.Omega.{arith}
 use Rattle.tree.proofs.Loops.{Alike, alike-not, alike-again, alike-all}
 use mathlib.Core.Path.{refl}
@@ -14,43 +12,33 @@ Inv-loop a b n i₀ i = Alike a b n i
 abbrev μ-loop : tie.MeasureT-loop
 μ-loop a b n i₀ i = n - i
 
--- src/lib.rt:343:5
 loop-holds : tie.Need-loop-holds Inv-loop μ-loop
 loop-holds c = record { at = omega arith; so-far = refl }
 
--- src/lib.rt:344:12
 mul-if1 : tie.Need-mul-if1 Inv-loop μ-loop
 mul-if1 c = search needs
 
--- src/lib.rt:344:12
 shared-slice-read-if1 : tie.Need-shared-slice-read-if1 Inv-loop μ-loop
 shared-slice-read-if1 c = search needs
 
--- src/lib.rt:344:20
 mul-if1-2 : tie.Need-mul-if1-2 Inv-loop μ-loop
 mul-if1-2 c = search needs
 
--- src/lib.rt:344:20
 shared-slice-read-if1-2 : tie.Need-shared-slice-read-if1-2 Inv-loop μ-loop
 shared-slice-read-if1-2 c = search needs
 
--- src/lib.rt:345:13
 returns : tie.Need-returns Inv-loop μ-loop
 returns c = alike-not (c .before .before .before .before .before .args .a .now) (c .before .before .before .before .before .args .b .now) (c .before .before .before .before .before .args .n) (c .before .before .before .before .loop .i) (c .before .before .before .loop-test .taken) (c .if1 .taken)
 
--- src/lib.rt:347:9
 add-i : tie.Need-add-i Inv-loop μ-loop
 add-i c = search needs
 
--- src/lib.rt:343:5
 loop-less : tie.Need-loop-less Inv-loop μ-loop
 loop-less c = omega (arith, c .before .before .before .loop-test .taken)
 
--- src/lib.rt:343:5
 loop-again : tie.Need-loop-again Inv-loop μ-loop
 loop-again c = alike-again (c .before .before .before .before .loop .inv) (c .before .before .before .loop-test .taken) (c .if1 .left)
 
--- src/lib.rt:338:1
 returns-2 : tie.Need-returns-2 Inv-loop μ-loop
 returns-2 c = alike-all (c .before .loop .inv) (c .loop-test .left)
 

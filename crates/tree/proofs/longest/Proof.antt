@@ -1,10 +1,6 @@
 use borrow.Author.Needs.{needs}
 use Rattle.tree.proofs.longest.Statement.{statement}
 use Rattle.tree.proofs.longest.Tie as tie
-use Rattle.tree.proofs.longest.Reads as reads
-use Rattle.tree.proofs.longest.Lts as lts
-use Rattle.sheet.proofs.methods.Reads as methods-reads
-use Rattle.tree.proofs.longer.Reads as longer-reads
 use native.Mathlib.Omega.{arith}
 use Rattle.tree.proofs.Loops.{Longest, longest-none, longest-again, longest-all}
 use Rattle.sheet.specs.Sheet.{tableIn}
@@ -17,31 +13,24 @@ Inv-loop ws jobs n₀ m₀ n m = Longest (tableIn ws) jobs m n
 abbrev μ-loop : tie.MeasureT-loop
 μ-loop ws jobs n₀ m₀ n m = length ((tableIn ws) .methods) - m
 
--- src/lib.rt:130:5
 loop-holds : tie.Need-loop-holds Inv-loop μ-loop
 loop-holds c = longest-none (tableIn (c .before .args .ws .now)) (c .before .args .jobs)
 
--- src/lib.rt:130:15
 methods-requires : tie.Need-methods-requires Inv-loop μ-loop
 methods-requires c κs = search needs
 
--- src/lib.rt:131:9
 longer-requires : tie.Need-longer-requires Inv-loop μ-loop
 longer-requires c κs = omega (arith, c .if1 .taken, c .before .methods .ensures, c .before .before .before .before .pre .limits .methods)
 
--- src/lib.rt:132:9
 add-m : tie.Need-add-m Inv-loop μ-loop
 add-m c = omega (arith, c .before .if1 .taken, c .before .before .methods .ensures, c .before .before .before .before .before .pre .limits .methods)
 
--- src/lib.rt:130:5
 loop-less : tie.Need-loop-less Inv-loop μ-loop
 loop-less c = omega (arith, c .before .if1 .taken, c .before .before .methods .ensures)
 
--- src/lib.rt:130:5
 loop-again : tie.Need-loop-again Inv-loop μ-loop
 loop-again c = longest-again (c .before .before .before .loop .inv) (c .before .before .methods .ensures) (c .before .if1 .taken) (c .longer .ensures)
 
--- src/lib.rt:124:1
 returns : tie.Need-returns Inv-loop μ-loop
 returns c = longest-all (c .before .before .loop .inv) (c .before .methods .ensures) (c .if1 .left)
 

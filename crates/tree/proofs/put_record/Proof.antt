@@ -1,48 +1,35 @@
 use borrow.Author.Needs.{needs}
 use Rattle.tree.proofs.put_record.Statement.{statement}
 use Rattle.tree.proofs.put_record.Tie as tie
-use Rattle.tree.proofs.put_record.Reads as reads
-use Rattle.tree.proofs.put_record.Lts as lts
-use Rattle.tree.proofs.put_word.Reads as put-word-reads
 use Rattle.tree.proofs.Loops.{put-none, put-five}
 
--- src/lib.rt:213:13
 mul-k : tie.Need-mul-k
 mul-k c = search needs
 
--- src/lib.rt:214:20
 add-if1 : tie.Need-add-if1
 add-if1 c = search needs
 
--- src/lib.rt:215:9
 returns : tie.Need-returns
 returns c = put-none (c .if1 .taken)
 
--- src/lib.rt:217:9
 put-word-requires : tie.Need-put-word-requires
 put-word-requires c κs = search needs
 
--- src/lib.rt:218:9
 put-word-requires-2 : tie.Need-put-word-requires-2
 put-word-requires-2 c κs = search needs
 
--- src/lib.rt:219:9
 put-word-requires-3 : tie.Need-put-word-requires-3
 put-word-requires-3 c κs = search needs
 
--- src/lib.rt:220:9
 put-word-requires-4 : tie.Need-put-word-requires-4
 put-word-requires-4 c κs = search needs
 
--- src/lib.rt:221:5
 put-word-requires-5 : tie.Need-put-word-requires-5
 put-word-requires-5 c κs = search needs
 
--- src/lib.rt:201:1
 same-length : tie.Need-same-length
 same-length c = search needs
 
--- src/lib.rt:201:1
 returns-2 : tie.Need-returns-2
 returns-2 c = put-five (c .before .before .before .before .before .before .before .before .before .before .before .before .before .before .before .before .before .before .before .before .before .before .fits .steps .fits) (c .before .before .before .before .before .before .before .before .before .before .before .before .before .before .before .before .before .before .before .before .before .before .fits .jobs .fits) (c .before .before .before .before .before .before .before .before .before .before .before .before .before .before .before .before .before .before .before .before .if1 .left) (c .before .before .before .before .before .before .before .before .before .before .before .before .before .before .before .before .before .before .put-word .ensures) (c .before .before .before .before .before .before .before .before .before .before .before .before .before .before .put-word2 .ensures) (c .before .before .before .before .before .before .before .before .before .before .put-word3 .ensures) (c .before .before .before .before .before .before .put-word4 .ensures) (c .before .before .put-word5 .ensures)
 

@@ -1,20 +1,14 @@
 use borrow.Author.Needs.{needs}
 use Rattle.tree.proofs.size.Statement.{statement}
 use Rattle.tree.proofs.size.Tie as tie
-use Rattle.tree.proofs.size.Reads as reads
-use Rattle.tree.proofs.size.Lts as lts
-use Rattle.bitset.proofs.size.Reads as size-reads
 use Rattle.tree.proofs.Loops.{size-word}
 
--- src/lib.rt:47:18
 slice-aggregate-size : tie.Need-slice-aggregate-size
 slice-aggregate-size c = search needs
 
--- src/lib.rt:47:5
 size-requires : tie.Need-size-requires
 size-requires c κs = search needs
 
--- src/lib.rt:43:1
 returns : tie.Need-returns
 returns c = size-word (c .before .before .args .w) (c .size .ensures)
 

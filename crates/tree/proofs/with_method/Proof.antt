@@ -1,34 +1,22 @@
 use borrow.Author.Needs.{needs}
 use Rattle.tree.proofs.with_method.Statement.{statement}
 use Rattle.tree.proofs.with_method.Tie as tie
-use Rattle.tree.proofs.with_method.Reads as reads
-use Rattle.tree.proofs.with_method.Lts as lts
-use Rattle.sheet.proofs.job_of.Reads as job-of-reads
-use Rattle.sheet.proofs.task.Reads as task-reads
-use Rattle.tree.proofs.holds.Reads as holds-reads
-use Rattle.tree.proofs.with_task.Reads as with-task-reads
 
--- src/lib.rt:80:20
 job-of-requires : tie.Need-job-of-requires
 job-of-requires c κs = search needs
 
--- src/lib.rt:80:8
 holds-requires : tie.Need-holds-requires
 holds-requires c κs = search needs
 
--- src/lib.rt:81:29
 task-requires : tie.Need-task-requires
 task-requires c κs = search needs
 
--- src/lib.rt:81:9
 with-task-requires : tie.Need-with-task-requires
 with-task-requires c κs = search needs
 
--- src/lib.rt:81:9
 returns : tie.Need-returns
 returns c = rw (← c .before .before .before .before .job-of .ensures, ← c .before .before .before .holds .ensures, c .before .before .if1 .taken, ← c .before .task .ensures) (c .with-task .ensures)
 
--- src/lib.rt:76:1
 returns-2 : tie.Need-returns-2
 returns-2 c = rw (← c .before .before .job-of .ensures, ← c .before .holds .ensures, c .if1 .left)
 

@@ -1,39 +1,28 @@
 use borrow.Author.Needs.{needs}
 use Rattle.tree.proofs.with_task.Statement.{statement}
 use Rattle.tree.proofs.with_task.Tie as tie
-use Rattle.tree.proofs.with_task.Reads as reads
-use Rattle.tree.proofs.with_task.Lts as lts
-use Rattle.tree.proofs.with.Reads as with-reads
 
--- src/lib.rt:63:20
 enum-known-t : tie.Need-enum-known-t
 enum-known-t c = search needs
 
--- src/lib.rt:64:20
 with-requires : tie.Need-with-requires
 with-requires c κs = search needs
 
--- src/lib.rt:67:19
 enum-known-t-2 : tie.Need-enum-known-t-2
 enum-known-t-2 c = search needs
 
--- src/lib.rt:69:19
 with-requires-2 : tie.Need-with-requires-2
 with-requires-2 c κs = search needs
 
--- src/lib.rt:71:26
 enum-told : tie.Need-enum-told
 enum-told c = search needs
 
--- src/lib.rt:59:1
 returns : tie.Need-returns
 returns c = rw (c .before .before .t .given .1, c .with .ensures)
 
--- src/lib.rt:59:1
 returns-2 : tie.Need-returns-2
 returns-2 c = rw (c .before .before .t2 .given .1, c .with2 .ensures)
 
--- src/lib.rt:59:1
 returns-3 : tie.Need-returns-3
 returns-3 c = rw (c .enum-told .given .1)
 

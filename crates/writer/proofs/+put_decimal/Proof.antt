@@ -27,7 +27,6 @@ abbrev put-decimal-below : ℕ → In 1 put-decimal-kinds.ps
 put-decimal-below t =
     and 1 put-decimal-kinds.ps (falls 1 put-decimal-kinds.ps _<_ μ-put-decimal t) put-decimal.Pre
 
--- src/lib.rt:73:9
 put-decimal-put-short-requires : (t : ℕ) → put-decimal-lts.Need-put-short-requires (
   put-short-reads.Asked,
   put-short-reads.Learnt,
@@ -38,7 +37,6 @@ put-decimal-put-short-requires : (t : ℕ) → put-decimal-lts.Need-put-short-re
 ) (put-decimal-at t) put-decimal.Post
 put-decimal-put-short-requires t c κs = (c .before .if1 .taken, c .before .before .before .pre .1)
 
--- src/lib.rt:73:9
 put-decimal-same-length : (t : ℕ) → put-decimal-lts.Need-same-length (
   put-short-reads.Asked,
   put-short-reads.Learnt,
@@ -49,7 +47,6 @@ put-decimal-same-length : (t : ℕ) → put-decimal-lts.Need-same-length (
 ) (put-decimal-at t) put-decimal.Post
 put-decimal-same-length t c = search needs
 
--- src/lib.rt:73:9
 put-decimal-returns : (t : ℕ) → put-decimal-lts.Need-returns (
   put-short-reads.Asked,
   put-short-reads.Learnt,
@@ -60,7 +57,6 @@ put-decimal-returns : (t : ℕ) → put-decimal-lts.Need-returns (
 ) (put-decimal-at t) put-decimal.Post
 put-decimal-returns t c = c .before .before .put-short .ensures
 
--- src/lib.rt:76:13
 put-decimal-put-short-requires-2 : (t : ℕ) → put-decimal-lts.Need-put-short-requires-2 (
   put-short-reads.Asked,
   put-short-reads.Learnt,
@@ -71,7 +67,6 @@ put-decimal-put-short-requires-2 : (t : ℕ) → put-decimal-lts.Need-put-short-
 ) (put-decimal-at t) put-decimal.Post
 put-decimal-put-short-requires-2 t c κs = (omega (arith, c .before .if2 .taken), omega (arith, c .before .before .before .before .pre .1, length-hundreds (c .before .before .before .before .args .n) (c .before .before .if1 .left)))
 
--- src/lib.rt:77:9
 put-decimal-put-pair-requires : (t : ℕ) → put-decimal-lts.Need-put-pair-requires (
   put-short-reads.Asked,
   put-short-reads.Learnt,
@@ -82,7 +77,6 @@ put-decimal-put-pair-requires : (t : ℕ) → put-decimal-lts.Need-put-pair-requ
 ) (put-decimal-at t) put-decimal.Post
 put-decimal-put-pair-requires t c κs = omega (arith, c .before .before .before .put-short2 .ensures .end, c .before .before .before .put-short2 .kept .0, c .before .before .before .before .before .before .before .before .pre .1, length-hundreds (c .before .before .before .before .before .before .before .before .args .n) (c .before .before .before .before .before .before .if1 .left))
 
--- src/lib.rt:77:9
 put-decimal-same-length-2 : (t : ℕ) → put-decimal-lts.Need-same-length-2 (
   put-short-reads.Asked,
   put-short-reads.Learnt,
@@ -93,7 +87,6 @@ put-decimal-same-length-2 : (t : ℕ) → put-decimal-lts.Need-same-length-2 (
 ) (put-decimal-at t) put-decimal.Post
 put-decimal-same-length-2 t c = search needs
 
--- src/lib.rt:77:9
 put-decimal-returns-2 : (t : ℕ) → put-decimal-lts.Need-returns-2 (
   put-short-reads.Asked,
   put-short-reads.Learnt,
@@ -104,7 +97,6 @@ put-decimal-returns-2 : (t : ℕ) → put-decimal-lts.Need-returns-2 (
 ) (put-decimal-at t) put-decimal.Post
 put-decimal-returns-2 t c = wrote-same (sym (decimal-hundreds (c .before .before .before .before .before .before .before .before .before .before .before .args .n) (c .before .before .before .before .before .before .before .before .before .if1 .left))) (wrote-append (omega (arith, c .before .before .before .before .before .before .before .before .before .before .before .pre .1)) (c .before .before .before .before .before .before .put-short2 .ensures) (c .before .before .put-pair .ensures))
 
--- src/lib.rt:79:9
 put-decimal-put-decimal-requires : (t : ℕ) → put-decimal-lts.Need-put-decimal-requires (
   put-short-reads.Asked,
   put-short-reads.Learnt,
@@ -115,7 +107,6 @@ put-decimal-put-decimal-requires : (t : ℕ) → put-decimal-lts.Need-put-decima
 ) (put-decimal-at t) put-decimal.Post
 put-decimal-put-decimal-requires t c κs = (omega (arith, c .before .before .before .before .pre .0, hundredth-less (c .before .before .before .before .args .n) (c .before .before .if1 .left)), omega (arith, c .before .before .before .before .pre .1, length-hundreds (c .before .before .before .before .args .n) (c .before .before .if1 .left)))
 
--- src/lib.rt:80:5
 put-decimal-put-pair-requires-2 : (t : ℕ) → put-decimal-lts.Need-put-pair-requires-2 (
   put-short-reads.Asked,
   put-short-reads.Learnt,
@@ -126,7 +117,6 @@ put-decimal-put-pair-requires-2 : (t : ℕ) → put-decimal-lts.Need-put-pair-re
 ) (put-decimal-at t) put-decimal.Post
 put-decimal-put-pair-requires-2 t c κs = omega (arith, c .before .before .before .put-decimal .ensures .end, c .before .before .before .put-decimal .kept .0, c .before .before .before .before .before .before .before .before .pre .1, length-hundreds (c .before .before .before .before .before .before .before .before .args .n) (c .before .before .before .before .before .before .if1 .left))
 
--- src/lib.rt:68:1
 put-decimal-same-length-3 : (t : ℕ) → put-decimal-lts.Need-same-length-3 (
   put-short-reads.Asked,
   put-short-reads.Learnt,
@@ -137,7 +127,6 @@ put-decimal-same-length-3 : (t : ℕ) → put-decimal-lts.Need-same-length-3 (
 ) (put-decimal-at t) put-decimal.Post
 put-decimal-same-length-3 t c = search needs
 
--- src/lib.rt:68:1
 put-decimal-returns-3 : (t : ℕ) → put-decimal-lts.Need-returns-3 (
   put-short-reads.Asked,
   put-short-reads.Learnt,

@@ -13,47 +13,36 @@ Inv-loop s a b t i₀ j₀ i j = Like s t a b i j × (j ≤ length t)
 abbrev μ-loop : tie.MeasureT-loop
 μ-loop s a b t i₀ j₀ i j = b - i
 
--- src/kind.rt:79:8
 sub-if1 : tie.Need-sub-if1 Inv-loop μ-loop
 sub-if1 c = search needs
 
--- src/kind.rt:80:9
 returns : tie.Need-returns Inv-loop μ-loop
 returns c = like-not _ _ _ _ (c .before .pre .1) (c .if1 .taken)
 
--- src/kind.rt:84:5
 loop-holds : tie.Need-loop-holds Inv-loop μ-loop
 loop-holds c = (like-first (c .before .pre .0) (c .if1 .left), omega arith)
 
--- src/kind.rt:85:12
 shared-slice-read-if2 : tie.Need-shared-slice-read-if2 Inv-loop μ-loop
 shared-slice-read-if2 c = search needs
 
--- src/kind.rt:85:20
 shared-slice-read-if2-2 : tie.Need-shared-slice-read-if2-2 Inv-loop μ-loop
 shared-slice-read-if2-2 c = like-room (c .before .before .before .loop .inv .0) (c .before .before .before .before .before .pre .1) (c .before .before .loop-test .taken)
 
--- src/kind.rt:86:13
 returns-2 : tie.Need-returns-2 Inv-loop μ-loop
 returns-2 c = like-out (c .before .before .before .before .loop .inv .0) (c .before .before .before .before .before .before .pre .1) (c .before .before .before .loop-test .taken) (c .if2 .taken)
 
--- src/kind.rt:88:9
 add-i : tie.Need-add-i Inv-loop μ-loop
 add-i c = search needs
 
--- src/kind.rt:89:9
 add-j : tie.Need-add-j Inv-loop μ-loop
 add-j c = omega (arith, like-room (c .before .before .before .before .loop .inv .0) (c .before .before .before .before .before .before .pre .1) (c .before .before .before .loop-test .taken))
 
--- src/kind.rt:84:5
 loop-less : tie.Need-loop-less Inv-loop μ-loop
 loop-less c = omega arith
 
--- src/kind.rt:84:5
 loop-again : tie.Need-loop-again Inv-loop μ-loop
 loop-again c = (like-more (c .before .before .before .before .loop .inv .0) (c .before .before .before .before .before .before .pre .1) (c .before .before .before .loop-test .taken) (c .if2 .left), next-le (like-room (c .before .before .before .before .loop .inv .0) (c .before .before .before .before .before .before .pre .1) (c .before .before .before .loop-test .taken)))
 
--- src/kind.rt:75:1
 returns-3 : tie.Need-returns-3 Inv-loop μ-loop
 returns-3 c = like-done (c .before .loop .inv .0) (c .before .loop .inv .1) (c .loop-test .left)
 

@@ -3,55 +3,42 @@ use Rattle.cells.proofs.kind.kind_of.Statement.{statement}
 use Rattle.cells.proofs.kind.kind_of.Tie as tie
 use Rattle.cells.proofs.Letters.{kind-none, kind-c, kind-alone, kind-unspaced, kind-lettered, lettered-c, lettered-s, lettered-v, lettered-other}
 
--- src/kind.rt:25:9
 returns : tie.Need-returns
 returns c = kind-none _ _ _ (c .if1 .taken)
 
--- src/kind.rt:27:8
 sub-if2 : tie.Need-sub-if2
 sub-if2 c = search needs
 
--- src/kind.rt:28:12
 shared-slice-read-if3 : tie.Need-shared-slice-read-if3
 shared-slice-read-if3 c = search needs
 
--- src/kind.rt:29:13
 returns-2 : tie.Need-returns-2
 returns-2 c = kind-c _ _ _ (c .before .before .before .before .pre .1) (c .before .before .if2 .taken) (c .if3 .taken)
 
--- src/kind.rt:31:9
 returns-3 : tie.Need-returns-3
 returns-3 c = kind-alone _ _ _ (c .before .before .before .before .pre .1) (c .before .before .if2 .taken) (c .if3 .left)
 
--- src/kind.rt:33:10
 add-if4 : tie.Need-add-if4
 add-if4 c = search needs
 
--- src/kind.rt:33:8
 shared-slice-read-if4 : tie.Need-shared-slice-read-if4
 shared-slice-read-if4 c = search needs
 
--- src/kind.rt:34:9
 returns-4 : tie.Need-returns-4
 returns-4 c = kind-unspaced _ _ _ (c .before .before .before .before .pre .1) (c .before .before .before .before .pre .0) (c .before .before .before .if1 .left) (c .before .before .if2 .left) (c .if4 .taken)
 
--- src/kind.rt:36:11
 shared-slice-read-match : tie.Need-shared-slice-read-match
 shared-slice-read-match c = search needs
 
--- src/kind.rt:20:1
 returns-5 : tie.Need-returns-5
 returns-5 c = kind-lettered _ _ _ (c .before .before .before .before .before .before .pre .1) (c .before .before .before .before .before .before .pre .0) (c .before .before .before .before .before .if1 .left) (c .before .before .before .before .if2 .left) (c .before .before .if4 .left) (lettered-c _ (c .match .keys1))
 
--- src/kind.rt:20:1
 returns-6 : tie.Need-returns-6
 returns-6 c = kind-lettered _ _ _ (c .before .before .before .before .before .before .pre .1) (c .before .before .before .before .before .before .pre .0) (c .before .before .before .before .before .if1 .left) (c .before .before .before .before .if2 .left) (c .before .before .if4 .left) (lettered-s _ (c .match .keys2))
 
--- src/kind.rt:20:1
 returns-7 : tie.Need-returns-7
 returns-7 c = kind-lettered _ _ _ (c .before .before .before .before .before .before .pre .1) (c .before .before .before .before .before .before .pre .0) (c .before .before .before .before .before .if1 .left) (c .before .before .before .before .if2 .left) (c .before .before .if4 .left) (lettered-v _ (c .match .keys3))
 
--- src/kind.rt:20:1
 returns-8 : tie.Need-returns-8
 returns-8 c = kind-lettered _ _ _ (c .before .before .before .before .before .before .pre .1) (c .before .before .before .before .before .before .pre .0) (c .before .before .before .before .before .if1 .left) (c .before .before .before .before .if2 .left) (c .before .before .if4 .left) (lettered-other _ (c .match .rest .0 .0 .1) (c .match .rest .0 .1) (c .match .rest .1))
 

@@ -13,39 +13,30 @@ Inv-loop s a n i₀ i = Passing s a i
 abbrev μ-loop : tie.MeasureT-loop
 μ-loop s a n i₀ i = length s - i
 
--- src/kind.rt:61:5
 loop-holds : tie.Need-loop-holds Inv-loop μ-loop
 loop-holds c = passing-first (c .before .pre)
 
--- src/kind.rt:62:13
 cut-requires : tie.Need-cut-requires Inv-loop μ-loop
 cut-requires c κs = (c .before .loop .inv .high, le-refl _)
 
--- src/kind.rt:64:13
 returns : tie.Need-returns Inv-loop μ-loop
 returns c = passing-last (c .before .before .before .loop .inv) (c .before .cut .ensures) (c .if1 .taken)
 
--- src/kind.rt:66:13
 is-comment-requires : tie.Need-is-comment-requires Inv-loop μ-loop
 is-comment-requires c κs = (c .before .cut .ensures .low, c .before .cut .ensures .high)
 
--- src/kind.rt:67:13
 returns-2 : tie.Need-returns-2 Inv-loop μ-loop
 returns-2 c = passing-stop (c .before .before .before .before .before .loop .inv) (c .before .before .before .cut .ensures) (c .before .before .if1 .left) (said-no (c .before .is-comment .ensures) (c .if2 .taken))
 
--- src/kind.rt:69:13
 add-i : tie.Need-add-i Inv-loop μ-loop
 add-i c = omega arith
 
--- src/kind.rt:61:5
 loop-less : tie.Need-loop-less Inv-loop μ-loop
 loop-less c = falls (c .before .before .before .cut .ensures .low) (c .before .before .before .cut .ensures .high) (c .before .before .if1 .left)
 
--- src/kind.rt:61:5
 loop-again : tie.Need-loop-again Inv-loop μ-loop
 loop-again c = passing-more (c .before .before .before .before .before .loop .inv) (c .before .before .before .cut .ensures) (c .before .before .if1 .left) (said-yes (c .before .is-comment .ensures) (c .if2 .left))
 
--- src/kind.rt:55:1
 returns-3 : tie.Need-returns-3 Inv-loop μ-loop
 returns-3 c = passing-end (c .before .loop .inv) (c .loop-test .left)
 

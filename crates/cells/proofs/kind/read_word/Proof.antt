@@ -4,43 +4,33 @@ use Rattle.cells.proofs.kind.read_word.Tie as tie
 use Rattle.cells.proofs.Letters.{word-satisfiable, word-unsatisfiable, word-unknown, word-none}
 use lib.Seq.{slice}
 
--- src/kind.rt:106:25
 slice-aggregate-is-text : tie.Need-slice-aggregate-is-text
 slice-aggregate-is-text c = search needs
 
--- src/kind.rt:106:8
 is-text-requires : tie.Need-is-text-requires
 is-text-requires c κs = search needs
 
--- src/kind.rt:107:9
 returns : tie.Need-returns
 returns c = word-satisfiable (slice (c .before .before .before .before .args .a) (c .before .before .before .before .args .b) (c .before .before .before .before .args .s .now)) (c .before .is-text .ensures) (c .if1 .taken)
 
--- src/kind.rt:109:25
 slice-aggregate-is-text-2 : tie.Need-slice-aggregate-is-text-2
 slice-aggregate-is-text-2 c = search needs
 
--- src/kind.rt:109:8
 is-text-requires-2 : tie.Need-is-text-requires-2
 is-text-requires-2 c κs = search needs
 
--- src/kind.rt:110:9
 returns-2 : tie.Need-returns-2
 returns-2 c = word-unsatisfiable (slice (c .before .before .before .before .before .before .before .args .a) (c .before .before .before .before .before .before .before .args .b) (c .before .before .before .before .before .before .before .args .s .now)) (c .before .before .before .before .is-text .ensures) (c .before .before .before .if1 .left) (c .before .is-text2 .ensures) (c .if2 .taken)
 
--- src/kind.rt:112:25
 slice-aggregate-is-text-3 : tie.Need-slice-aggregate-is-text-3
 slice-aggregate-is-text-3 c = search needs
 
--- src/kind.rt:112:8
 is-text-requires-3 : tie.Need-is-text-requires-3
 is-text-requires-3 c κs = search needs
 
--- src/kind.rt:113:9
 returns-3 : tie.Need-returns-3
 returns-3 c = word-unknown (slice (c .before .before .before .before .before .before .before .before .before .before .args .a) (c .before .before .before .before .before .before .before .before .before .before .args .b) (c .before .before .before .before .before .before .before .before .before .before .args .s .now)) (c .before .before .before .before .before .before .before .is-text .ensures) (c .before .before .before .before .before .before .if1 .left) (c .before .before .before .before .is-text2 .ensures) (c .before .before .before .if2 .left) (c .before .is-text3 .ensures) (c .if3 .taken)
 
--- src/kind.rt:102:1
 returns-4 : tie.Need-returns-4
 returns-4 c = word-none (slice (c .before .before .before .before .before .before .before .before .before .before .args .a) (c .before .before .before .before .before .before .before .before .before .before .args .b) (c .before .before .before .before .before .before .before .before .before .before .args .s .now)) (c .before .before .before .before .before .before .before .is-text .ensures) (c .before .before .before .before .before .before .if1 .left) (c .before .before .before .before .is-text2 .ensures) (c .before .before .before .if2 .left) (c .before .is-text3 .ensures) (c .if3 .left)
 

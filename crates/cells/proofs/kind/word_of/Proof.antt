@@ -6,47 +6,36 @@ use native.Mathlib.Omega.{arith}
 use Rattle.cells.proofs.Letters.{word-no-line, word-line, word-room}
 use lib.Seq.{slice}
 
--- src/kind.rt:125:11
 kind-of-requires : tie.Need-kind-of-requires
 kind-of-requires c κs = search needs
 
--- src/kind.rt:126:26
 enum-told : tie.Need-enum-told
 enum-told c = search needs
 
--- src/kind.rt:128:21
 enum-told-2 : tie.Need-enum-told-2
 enum-told-2 c = search needs
 
--- src/kind.rt:128:21
 add-i : tie.Need-add-i
 add-i c = omega (arith, word-room (c .before .before .before .before .args .s .now) (c .before .before .before .before .args .a) (c .before .before .before .before .args .b) (c .before .before .before .before .pre .1) (sym (c .enum-told2 .given .1) ∙ c .before .before .kind-of .ensures), c .before .before .before .before .pre .1)
 
--- src/kind.rt:129:13
 read-word-requires : tie.Need-read-word-requires
 read-word-requires c κs = (word-room (c .before .before .before .before .args .s .now) (c .before .before .before .before .args .a) (c .before .before .before .before .args .b) (c .before .before .before .before .pre .1) (sym (c .enum-told2 .given .1) ∙ c .before .before .kind-of .ensures), c .before .before .before .before .pre .1)
 
--- src/kind.rt:131:25
 enum-told-3 : tie.Need-enum-told-3
 enum-told-3 c = search needs
 
--- src/kind.rt:132:24
 enum-told-4 : tie.Need-enum-told-4
 enum-told-4 c = search needs
 
--- src/kind.rt:121:1
 returns : tie.Need-returns
 returns c = word-no-line (slice (c .before .before .before .before .args .a) (c .before .before .before .before .args .b) (c .before .before .before .before .args .s .now)) _ (sym (c .enum-told .given .1) ∙ c .before .before .kind-of .ensures)
 
--- src/kind.rt:121:1
 returns-2 : tie.Need-returns-2
 returns-2 c = c .read-word .ensures ∙ word-line (c .before .before .before .before .before .args .s .now) (c .before .before .before .before .before .args .a) (c .before .before .before .before .before .args .b) (c .before .before .before .before .before .pre .1) (sym (c .before .enum-told2 .given .1) ∙ c .before .before .before .kind-of .ensures)
 
--- src/kind.rt:121:1
 returns-3 : tie.Need-returns-3
 returns-3 c = word-no-line (slice (c .before .before .before .before .args .a) (c .before .before .before .before .args .b) (c .before .before .before .before .args .s .now)) _ (sym (c .enum-told3 .given .1) ∙ c .before .before .kind-of .ensures)
 
--- src/kind.rt:121:1
 returns-4 : tie.Need-returns-4
 returns-4 c = word-no-line (slice (c .before .before .before .before .args .a) (c .before .before .before .before .args .b) (c .before .before .before .before .args .s .now)) _ (sym (c .enum-told4 .given .1) ∙ c .before .before .kind-of .ensures)
 

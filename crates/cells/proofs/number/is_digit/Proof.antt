@@ -2,15 +2,12 @@ use Rattle.cells.proofs.number.is_digit.Statement.{statement}
 use Rattle.cells.proofs.number.is_digit.Tie as tie
 use Rattle.cells.proofs.Numbers.{digit-in, digit-under, digit-over}
 
--- src/number.rt:19:1
 returns : tie.Need-returns
 returns c = digit-in _ (c .before .if1 .left) (c .if2 .taken)
 
--- src/number.rt:19:1
 returns-2 : tie.Need-returns-2
 returns-2 c = digit-under _ (c .if1 .taken)
 
--- src/number.rt:19:1
 returns-3 : tie.Need-returns-3
 returns-3 c = digit-over _ (c .if2 .left)
 

@@ -3,31 +3,24 @@ use Rattle.cells.proofs.number.is_short.Statement.{statement}
 use Rattle.cells.proofs.number.is_short.Tie as tie
 use Rattle.cells.proofs.Numbers.{short-long, short-none, short-one, short-more}
 
--- src/number.rt:63:8
 sub-if1 : tie.Need-sub-if1
 sub-if1 c = search needs
 
--- src/number.rt:64:9
 returns : tie.Need-returns
 returns c = short-long _ _ _ (c .before .pre .1) (c .if1 .taken)
 
--- src/number.rt:67:9
 returns-2 : tie.Need-returns-2
 returns-2 c = short-none _ _ _ (c .if2 .taken)
 
--- src/number.rt:69:8
 sub-if3 : tie.Need-sub-if3
 sub-if3 c = search needs
 
--- src/number.rt:70:9
 returns-3 : tie.Need-returns-3
 returns-3 c = short-one _ _ _ (c .before .before .before .pre .1) (c .if3 .taken)
 
--- src/number.rt:72:5
 shared-slice-read-result : tie.Need-shared-slice-read-result
 shared-slice-read-result c = search needs
 
--- src/number.rt:59:1
 returns-4 : tie.Need-returns-4
 returns-4 c = short-more _ _ _ (c .before .before .before .before .pre .1) (c .before .before .before .if1 .left) (c .before .before .if2 .left) (c .before .before .before .before .pre .0) (c .before .if3 .left)
 

@@ -13,59 +13,45 @@ Inv-loop s a b sign v₀ i₀ v i = Digits s sign a b v i
 abbrev μ-loop : tie.MeasureT-loop
 μ-loop s a b sign v₀ i₀ v i = b - i
 
--- src/number.rt:48:5
 loop-holds : tie.Need-loop-holds Inv-loop μ-loop
 loop-holds c = digits-first (c .before .pre .0)
 
--- src/number.rt:49:22
 shared-slice-read-is-digit : tie.Need-shared-slice-read-is-digit Inv-loop μ-loop
 shared-slice-read-is-digit c = search needs
 
--- src/number.rt:49:13
 is-digit-requires : tie.Need-is-digit-requires Inv-loop μ-loop
 is-digit-requires c κs = search needs
 
--- src/number.rt:50:13
 returns : tie.Need-returns Inv-loop μ-loop
 returns c = digits-out (c .before .before .before .before .loop .inv) (c .before .before .before .loop-test .taken) (c .before .before .before .before .before .before .pre .1) (said-no (c .before .is-digit .ensures) (c .if1 .taken))
 
--- src/number.rt:52:13
 mul-v : tie.Need-mul-v Inv-loop μ-loop
 mul-v c = omega (arith, digits-few (c .before .before .before .before .loop .inv) (c .before .before .before .before .before .before .pre .2))
 
--- src/number.rt:52:23
 shared-slice-read-v : tie.Need-shared-slice-read-v Inv-loop μ-loop
 shared-slice-read-v c = search needs
 
--- src/number.rt:52:23
 sub-v : tie.Need-sub-v Inv-loop μ-loop
 sub-v c = digit-range _ (said-yes (c .before .before .is-digit .ensures) (c .before .if1 .left)) .0
 
--- src/number.rt:52:22
 cast-v : tie.Need-cast-v Inv-loop μ-loop
 cast-v c = omega (arith, digit-range _ (said-yes (c .before .before .is-digit .ensures) (c .before .if1 .left)) .1)
 
--- src/number.rt:52:13
 add-v : tie.Need-add-v Inv-loop μ-loop
 add-v c = omega (arith, digits-few (c .before .before .before .before .before .loop .inv) (c .before .before .before .before .before .before .before .pre .2), digit-range _ (said-yes (c .before .before .is-digit .ensures) (c .before .if1 .left)) .1)
 
--- src/number.rt:53:9
 add-i : tie.Need-add-i Inv-loop μ-loop
 add-i c = search needs
 
--- src/number.rt:48:5
 loop-less : tie.Need-loop-less Inv-loop μ-loop
 loop-less c = omega arith
 
--- src/number.rt:48:5
 loop-again : tie.Need-loop-again Inv-loop μ-loop
 loop-again c = digits-more (c .before .before .before .before .before .loop .inv) (c .before .before .before .before .loop-test .taken) (c .before .before .before .before .before .before .before .pre .1) (said-yes (c .before .before .is-digit .ensures) (c .before .if1 .left))
 
--- src/number.rt:55:5
 signed-requires : tie.Need-signed-requires Inv-loop μ-loop
 signed-requires c κs = search needs
 
--- src/number.rt:42:1
 returns-2 : tie.Need-returns-2 Inv-loop μ-loop
 returns-2 c = c .signed .ensures ∙ digits-done (c .before .before .loop .inv) (c .before .loop-test .left)
 

@@ -5,31 +5,24 @@ use Rattle.cells.proofs.Numbers.{number-none, number-minus, number-plai
 use mathlib.Core.Path.{_∙_}
 use Rattle.lists.proofs.Order.{ne-lt-one}
 
--- src/number.rt:92:9
 returns : tie.Need-returns
 returns c = number-none _ _ _ (c .if1 .taken)
 
--- src/number.rt:94:8
 shared-slice-read-if2 : tie.Need-shared-slice-read-if2
 shared-slice-read-if2 c = search needs
 
--- src/number.rt:95:17
 add-i : tie.Need-add-i
 add-i c = search needs
 
--- src/number.rt:96:9
 read-numeral-requires : tie.Need-read-numeral-requires
 read-numeral-requires c κs = (ne-lt-one (c .before .before .before .before .pre .0) (c .before .before .if1 .left), c .before .before .before .before .pre .1)
 
--- src/number.rt:96:9
 returns-2 : tie.Need-returns-2
 returns-2 c = c .read-numeral .ensures ∙ number-minus _ _ _ (c .before .before .before .before .before .pre .1) (c .before .before .before .before .before .pre .0) (c .before .before .before .if1 .left) (c .before .if2 .taken)
 
--- src/number.rt:98:5
 read-numeral-requires-2 : tie.Need-read-numeral-requires-2
 read-numeral-requires-2 c κs = search needs
 
--- src/number.rt:87:1
 returns-3 : tie.Need-returns-3
 returns-3 c = c .read-numeral2 .ensures ∙ number-plain _ _ _ (c .before .before .before .before .before .pre .1) (c .before .before .before .before .before .pre .0) (c .before .before .before .if1 .left) (c .before .if2 .left)
 

@@ -6,19 +6,15 @@ use Rattle.cells.proofs.Numbers.{numeral-not, numeral-digits, short-fit
 use mathlib.Core.Path.{_∙_}
 use lib.Seq.{slice}
 
--- src/number.rt:80:9
 is-short-requires : tie.Need-is-short-requires
 is-short-requires c κs = search needs
 
--- src/number.rt:81:9
 returns : tie.Need-returns
 returns c = numeral-not (c .before .before .before .args .sign) (slice (c .before .before .before .args .a) (c .before .before .before .args .b) (c .before .before .before .args .s .now)) (said-no (c .before .is-short .ensures) (c .if1 .taken))
 
--- src/number.rt:83:5
 read-digits-requires : tie.Need-read-digits-requires
 read-digits-requires c κs = (c .before .before .before .pre .0, c .before .before .before .pre .1, short-fits _ _ _ (c .before .before .before .pre .1) (said-yes (c .before .is-short .ensures) (c .if1 .left)))
 
--- src/number.rt:76:1
 returns-2 : tie.Need-returns-2
 returns-2 c = c .read-digits .ensures ∙ numeral-digits (c .before .before .before .before .args .sign) (slice (c .before .before .before .before .args .a) (c .before .before .before .before .args .b) (c .before .before .before .before .args .s .now)) (said-yes (c .before .before .is-short .ensures) (c .before .if1 .left))
 

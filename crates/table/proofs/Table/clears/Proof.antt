@@ -4,11 +4,9 @@ use Rattle.table.proofs.Table.clears.Statement.{statement}
 use mathlib.Core.Path.{refl}
 use Rattle.table.proofs.Access.{step-set}
 
--- src/lib.rt:299:9
 set-below-requires : tie.Need-set-below-requires
 set-below-requires c κs = search needs
 
--- src/lib.rt:296:5
 returns : tie.Need-returns
 returns c = let a = c .before .before .before .before .args in step-set (a .t1) (a .i) (λ s. s .clears) (a .t1 .clears) refl refl _ (c .set-below .ensures)
 

@@ -2,7 +2,6 @@ use Rattle.table.proofs.Table.depth.Tie as tie
 use Rattle.table.proofs.Table.depth.Statement.{statement}
 use Rattle.table.proofs.Access.{depth-told}
 
--- src/lib.rt:278:5
 returns : tie.Need-returns
 returns c = depth-told (c .args .self)
 

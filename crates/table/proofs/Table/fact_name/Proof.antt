@@ -3,11 +3,9 @@ use borrow.Author.Needs.{needs}
 use Rattle.table.proofs.Table.fact_name.Statement.{statement}
 use Rattle.table.proofs.Access.{fact-named}
 
--- src/lib.rt:341:9
 name-at-requires : tie.Need-name-at-requires
 name-at-requires c κs = search needs
 
--- src/lib.rt:338:5
 returns : tie.Need-returns
 returns c = let a = c .before .before .before .before .before .before .before .args in fact-named (a .t1) (a .i) (a .file .now) _ (c .name-at .ensures)
 

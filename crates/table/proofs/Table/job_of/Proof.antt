@@ -3,11 +3,9 @@ use borrow.Author.Needs.{needs}
 use Rattle.table.proofs.Table.job_of.Statement.{statement}
 use Rattle.table.proofs.Access.{job-told}
 
--- src/lib.rt:306:9
 byte-below-requires : tie.Need-byte-below-requires
 byte-below-requires c κs = search needs
 
--- src/lib.rt:303:5
 returns : tie.Need-returns
 returns c = let a = c .before .before .before .before .args in job-told (a .t1) (a .m) _ (c .byte-below .ensures .0)
 

@@ -3,11 +3,9 @@ use borrow.Author.Needs.{needs}
 use Rattle.table.proofs.Table.jobs.Statement.{statement}
 use Rattle.table.proofs.Access.{jobs-told}
 
--- src/lib.rt:262:9
 cast-result : tie.Need-cast-result
 cast-result c = search needs
 
--- src/lib.rt:259:5
 returns : tie.Need-returns
 returns c = jobs-told (c .before .args .self)
 

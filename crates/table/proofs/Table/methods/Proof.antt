@@ -3,11 +3,9 @@ use borrow.Author.Needs.{needs}
 use Rattle.table.proofs.Table.methods.Statement.{statement}
 use Rattle.table.proofs.Access.{count-methods}
 
--- src/lib.rt:238:9
 cast-result : tie.Need-cast-result
 cast-result c = search needs
 
--- src/lib.rt:235:5
 returns : tie.Need-returns
 returns c = count-methods (c .before .args .self)
 

@@ -2,7 +2,6 @@ use Rattle.table.proofs.Table.root.Tie as tie
 use Rattle.table.proofs.Table.root.Statement.{statement}
 use Rattle.table.proofs.Access.{root-told}
 
--- src/lib.rt:272:5
 returns : tie.Need-returns
 returns c = root-told (c .args .self)
 

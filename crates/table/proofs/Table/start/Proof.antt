@@ -2,7 +2,6 @@ use Rattle.table.proofs.Table.start.Tie as tie
 use Rattle.table.proofs.Table.start.Statement.{statement}
 use Rattle.table.proofs.Access.{start-told}
 
--- src/lib.rt:285:5
 returns : tie.Need-returns
 returns c = start-told (c .before .args .self)
 

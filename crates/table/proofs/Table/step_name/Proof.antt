@@ -3,11 +3,9 @@ use borrow.Author.Needs.{needs}
 use Rattle.table.proofs.Table.step_name.Statement.{statement}
 use Rattle.table.proofs.Access.{step-named}
 
--- src/lib.rt:348:9
 name-at-requires : tie.Need-name-at-requires
 name-at-requires c κs = search needs
 
--- src/lib.rt:344:5
 returns : tie.Need-returns
 returns c = let a = c .before .before .before .before .before .before .before .args in step-named (a .t1) (a .i) (a .file .now) _ (c .name-at .ensures)
 

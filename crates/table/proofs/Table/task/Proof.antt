@@ -3,23 +3,18 @@ use borrow.Author.Needs.{needs}
 use Rattle.table.proofs.Table.task.Statement.{statement}
 use Rattle.table.proofs.Access.{task-past, task-here}
 
--- src/lib.rt:332:13
 byte-below-requires : tie.Need-byte-below-requires
 byte-below-requires c κs = search needs
 
--- src/lib.rt:334:13
 returns : tie.Need-returns
 returns c = let a = c .before .before .before .before .before .args in task-past (a .t1) (a .method) (a .place) _ (c .before .byte-below .ensures .0) (c .if1 .taken)
 
--- src/lib.rt:336:29
 body-byte-requires : tie.Need-body-byte-requires
 body-byte-requires c κs = search needs
 
--- src/lib.rt:336:9
 task-at-requires : tie.Need-task-at-requires
 task-at-requires c κs = search needs
 
--- src/lib.rt:329:5
 returns-2 : tie.Need-returns-2
 returns-2 c = let a = c .before .before .before .before .before .before .before .before .before .before .args in task-here (a .t1) (a .method) (a .place) _ (c .before .before .before .before .before .before .byte-below .ensures .0) (c .before .before .before .before .before .if1 .left) (c .before .before .before .before .before .before .byte-below .ensures .1) _ (c .before .body-byte .ensures) (c .task-at .ensures)
 
