@@ -10,8 +10,8 @@ use std::process::{Command, ExitCode};
 
 const PROGRAMS: [&str; 2] = ["formulas", "procedures"];
 
-/// The programs do not stand on it: its static library is only built once it is proved.
-const NOT_BELOW: &str = "curdfuture/";
+/// The programs do not stand on these; the static library of the first is only built once it is proved.
+const NOT_BELOW: [&str; 2] = ["curdfuture/", "nodes/"];
 
 /// One replacement in one file of a crate.
 struct Edit {
@@ -49,7 +49,7 @@ fn edit(repository: &Path, path: &Path) -> Option<Edit> {
     let file = field("file: ").filter(|file| file.starts_with("src/"))?;
     let folder = path.parent()?.parent()?.strip_prefix(repository).ok()?;
     let name = format!("{}/{}", folder.file_name()?.to_string_lossy(), path.file_stem()?.to_string_lossy());
-    if name.starts_with(NOT_BELOW) {
+    if NOT_BELOW.iter().any(|start| name.starts_with(start)) {
         return None;
     }
     let new = field("new:").map(|new| new.strip_prefix(' ').unwrap_or(&new).to_string())?;

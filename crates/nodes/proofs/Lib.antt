@@ -1,0 +1,3 @@
+-- Laws, then what the walks share.
+pub mod Laws
+pub mod Walk

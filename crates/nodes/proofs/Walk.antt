@@ -1,0 +1,49 @@
+-- Pieces that the walks share: the types of a function's locals, and the parts of its body.
+-- Assumes nothing.
+use mathlib.Core.List.{List, [], _∷_}
+use Prim.Native.Nat.{ℕ, zero, suc}
+use mir.Syntax.{Ty, tyUnit, Local, local, Body, skip, seq, assign, block, loop, cond, switch, exit, return, call}
+
+-- the type of local n
+abbrev pub typeOf : ℕ → List Local → Ty
+typeOf n [] = tyUnit
+typeOf zero (local τ h ∷ ls) = τ
+typeOf (suc n) (l ∷ ls) = typeOf n ls
+
+-- what a body begins with, and what comes after that
+abbrev pub head : Body → Body
+head skip = skip
+head (seq a b) = a
+head (assign p r) = skip
+head (block b) = skip
+head (loop b) = skip
+head (cond c a b) = skip
+head (switch c s) = skip
+head (exit k) = skip
+head return = skip
+head (call f xs d) = skip
+
+abbrev pub after : Body → Body
+after skip = skip
+after (seq a b) = b
+after (assign p r) = skip
+after (block b) = skip
+after (loop b) = skip
+after (cond c a b) = skip
+after (switch c s) = skip
+after (exit k) = skip
+after return = skip
+after (call f xs d) = skip
+
+-- what a block or a loop holds
+abbrev pub inside : Body → Body
+inside skip = skip
+inside (seq a b) = skip
+inside (assign p r) = skip
+inside (block b) = b
+inside (loop b) = b
+inside (cond c a b) = skip
+inside (switch c s) = skip
+inside (exit k) = skip
+inside return = skip
+inside (call f xs d) = skip

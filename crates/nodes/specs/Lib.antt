@@ -1,0 +1,2 @@
+-- The lent tree records.
+pub mod Nodes

@@ -1,0 +1,30 @@
+-- The lent tree records as node structs, and as words, five a record.
+-- Assumes nothing.
+use mathlib.Core.List.{List, [], _∷_, map, _++_}
+use Prim.Native.Nat.{ℕ, _+_, _*_}
+use lib.ListN.{getD, take, drop}
+use Rattle.lists.specs.List.{concatMap, upTo}
+use Rattle.nodes.specs.declared.Node.{Node}
+
+-- the record of zeros, for a place past the last
+abbrev pub blank : Node
+blank = record { depth = 0; parent = 0; children = 0; steps = 0; jobs = 0 }
+
+-- a record's words, and those of records
+abbrev pub nodeWords : Node → List ℕ
+nodeWords n = n .depth ∷ n .parent ∷ n .children ∷ n .steps ∷ n .jobs ∷ []
+
+abbrev pub wordsOf : List Node → List ℕ
+wordsOf ns = concatMap nodeWords ns
+
+-- record i of those kept as words
+abbrev pub nodeAt : List ℕ → ℕ → Node
+nodeAt fs i = record { depth = getD fs (i * 5) 0; parent = getD fs (i * 5 + 1) 0; children = getD fs (i * 5 + 2) 0; steps = getD fs (i * 5 + 3) 0; jobs = getD fs (i * 5 + 4) 0 }
+
+-- the first n records from words, and the others as they were
+unfoldable pub laid : List ℕ → List Node → ℕ → List Node
+laid fs ns n = map (nodeAt fs) (upTo n) ++ drop n ns
+
+-- the words of the first n records, and the others as they were
+unfoldable pub gathered : List Node → List ℕ → ℕ → List ℕ
+gathered ns fs n = wordsOf (take n ns) ++ drop (n * 5) fs

@@ -1,0 +1,83 @@
+// The lent tree records, one a node: a slice of node structs behind a few thin functions, each proved by hand. Crates above work over the
+// records' words, five a record, and go to the slice through these functions alone.
+ghost use mathlib.Core.Path.{_≡_};
+ghost use Prim.Native.Nat.{_+_, _*_, _≤_, _<_};
+ghost use lib.ListN.{length, set, getD};
+ghost use Rattle.nodes.specs.Nodes.{blank, nodeAt, laid, gathered};
+
+// Document 01's record of a node: its depth, its parent's number, its child count, the sets of steps and of jobs it may hold.
+pub struct Node {
+    pub depth: u64,
+    pub parent: u64,
+    pub children: u64,
+    pub steps: u64,
+    pub jobs: u64,
+}
+
+// How many records there are.
+pub fn count(ns: &[Node]) -> usize
+    ensures { λ r. ⌜ r ≡ length (now (ns .entry)) ⌝ }
+{
+    ns.len()
+}
+
+// Record i.
+pub fn read(ns: &[Node], i: usize) -> Node
+    requires { ⌜ i < length (now ns) ⌝ }
+    ensures { λ r. ⌜ r ≡ getD (now (ns .entry)) i blank ⌝ }
+{
+    ns[i]
+}
+
+// Record i is n from now on.
+pub fn write(ns: &mut [Node], i: usize, n: Node)
+    requires { ⌜ i < length (now ns) ⌝ }
+    ensures { λ r. ⌜ now (ns .exit) ≡ set (now (ns .entry)) i n ⌝ }
+{
+    ns[i] = n;
+}
+
+// Record i of those kept as words.
+fn node_at(flat: &[u64], i: usize) -> Node
+    requires { ⌜ (i < 65536) × (i * 5 + 4 < length (now flat)) ⌝ }
+    ensures { λ r. ⌜ r ≡ nodeAt (now (flat .entry)) i ⌝ }
+{
+    let a = i * 5;
+    Node {
+        depth: flat[a],
+        parent: flat[a + 1],
+        children: flat[a + 2],
+        steps: flat[a + 3],
+        jobs: flat[a + 4],
+    }
+}
+
+// The first n records are those of flat; the others stay.
+pub fn scatter<'a, 'b>(ns: &'a mut [Node], flat: &'b [u64], n: usize)
+    requires { ⌜ (n < 65536) × (n ≤ length (now ns)) × (n * 5 ≤ length (now flat)) ⌝ }
+    ensures { λ r. ⌜ now (ns .exit) ≡ laid (now (flat .entry)) (now (ns .entry)) n ⌝ }
+{
+    let mut i: usize = 0;
+    while i < n {
+        ns[i] = node_at(flat, i);
+        i += 1;
+    }
+}
+
+// The first words are those of the first n records; the others stay.
+pub fn gather<'a, 'b>(ns: &'a [Node], flat: &'b mut [u64], n: usize)
+    requires { ⌜ (n < 65536) × (n ≤ length (now ns)) × (n * 5 ≤ length (now flat)) ⌝ }
+    ensures { λ r. ⌜ now (flat .exit) ≡ gathered (now (ns .entry)) (now (flat .entry)) n ⌝ }
+{
+    let mut i: usize = 0;
+    while i < n {
+        let r = ns[i];
+        let a = i * 5;
+        flat[a] = r.depth;
+        flat[a + 1] = r.parent;
+        flat[a + 2] = r.children;
+        flat[a + 3] = r.steps;
+        flat[a + 4] = r.jobs;
+        i += 1;
+    }
+}
