@@ -13,10 +13,11 @@ use Rattle.lines.specs.Bytes.{digit, sameBytes}
 use Rattle.lines.specs.Parts.{split, ended}
 use Rattle.table.specs.Reading.{NameParts, passed, reading}
 use Rattle.table.proofs.Computed.{marked-files}
-use Rattle.tree.specs.Words.{met10}
+use Rattle.nodes.specs.Tree.{enoughTree, met10}
+use Rattle.nodes.specs.declared.Node.{Node}
 use Rattle.solver.specs.File.{answerOf}
 use Rattle.listing.specs.Listing.{Names, shownNames}
-use Rattle.questions.specs.Questions.{accepted, accepting, afterReading, enoughTree, turnedDown, taken}
+use Rattle.questions.specs.Questions.{accepted, accepting, afterReading, turnedDown, taken}
 use Rattle.answer.specs.Calls.{enoughValues, enoughListing, taking, valuesAfter, lent, listingOf, showing, listingAfter}
 
 abbrev example : List ℕ
@@ -36,7 +37,7 @@ example-accepted = ap afterReading example-read
 abbrev after : List ℕ → List ℕ
 after bs = bytes "s SATISFIABLE\n" ++ bs
 
-module _ (tree values : List ℕ) (own : met10 shownTable tree ≡ true) (enough : (enoughTree tree && enoughValues values) ≡ true) where
+module _ (tree : List Node) (values : List ℕ) (own : met10 shownTable tree ≡ true) (enough : (enoughTree tree && enoughValues values) ≡ true) where
   -- "`s SATISFIABLE` and `v 1 2 3 -4 5 0`"
   pub example-taken : (taking example tree (after (bytes "v 1 2 3 -4 5 0\n")) values ≡ taken (5 ∷ [])) × (valuesAfter example tree (after (bytes "v 1 2 3 -4 5 0\n")) values ≡ 1 ∷ 1 ∷ 1 ∷ 0 ∷ 1 ∷ drop 5 values)
   unfolding place childLabel childCount answerOf ended split sameBytes digit
@@ -88,7 +89,7 @@ module _ (tree values : List ℕ) (own : met10 shownTable tree ≡ true) (enough
 example-names : shownNames example names ≡ record { steps = bytes "lift" ∷ []; jobs = bytes "serve" ∷ [] }
 example-names = ap₂ (λ (s j : List (List ℕ)). record { steps = s; jobs = j }) (marked-files .shown-file .step-names) (marked-files .shown-file .job-names)
 
-module _ (tree more text : List ℕ) (own : met10 shownTable tree ≡ true) where
+module _ (tree : List Node) (more text : List ℕ) (own : met10 shownTable tree ≡ true) where
   -- "program `procedure` writes two lines: `J`, 0, `serve`, 0; then `S`, 1, `lift`; tabs between"
   pub example-listed : (enoughTree tree && (enoughValues (1 ∷ 1 ∷ 1 ∷ 0 ∷ 1 ∷ more) && enoughListing text)) ≡ true
       → (showing example tree (1 ∷ 1 ∷ 1 ∷ 0 ∷ 1 ∷ more) text ≡ taken (21 ∷ [])) × (listingAfter example tree (1 ∷ 1 ∷ 1 ∷ 0 ∷ 1 ∷ more) text ≡ bytes "J\t0\tserve\t0\nS\t1\tlift\n" ++ drop 21 text)

@@ -7,22 +7,24 @@ use mathlib.Core.Logic.{_↔_}
 use mathlib.Core.Option.{Option, none, some}
 use Prim.Native.Nat.{ℕ, zero, suc, _≤_}
 use native.Mathlib.Omega.{arith}
-use lib.Dec.{eqb, leb}
+use lib.Dec.{leb}
 use lib.ListN.{length, getD, take, drop, length-append, length-drop, List·getD-append}
 use lib.Seq.{take-at}
 use Rattle.lists.specs.List.{all, upTo}
 use Rattle.lists.specs.Question.{firstUnmet}
-use Rattle.lists.proofs.Bool.{leb-in, leb-sound, eqb-same, and-in, and-l, and-r, clash}
+use Rattle.lists.proofs.Bool.{leb-in, leb-sound, and-in, and-l, and-r, clash}
 use Rattle.lists.proofs.Member.{all-in}
 use Rattle.lists.proofs.Number.{upTo-range}
 use Rattle.planning.specs.Table.{Table}
 use Rattle.planning.specs.Tree.{Tree, TreeOf}
-use Rattle.planning.specs.Record.{records}
 use Rattle.planning.specs.Variable.{variables}
 use Rattle.planning.specs.Clause.{Lit, formula}
 use Rattle.planning.specs.Model.{value, satisfies, Model, Gives, bits, truthsIn}
 use Rattle.planning.proofs.Demand3.{demand3}
-use Rattle.tree.specs.Words.{treeWords, met10}
+use Rattle.nodes.specs.Nodes.{blank}
+use Rattle.nodes.specs.Tree.{treeOf, enoughTree, sameNode, met10}
+use Rattle.nodes.specs.declared.Node.{Node}
+use Rattle.nodes.proofs.Same.{node-same}
 use Rattle.solver.specs.Line.{Word, satisfiable, unsatisfiable, unknown}
 use Rattle.solver.specs.File.{Answer, answerOf}
 use Rattle.solver.specs.Questions.{isSome, saysSatisfiable, numbersSaid, met12, met13, met14, onceEach, truths}
@@ -31,12 +33,13 @@ use Rattle.solver.proofs.File.{answerFile, literals, file-length, file-says, fi
 use Rattle.listing.specs.Listing.{shownNames, listing}
 use Rattle.listing.proofs.Walked.{walked-is}
 use Rattle.listing.proofs.Fits.{walked-fits}
-use Rattle.questions.specs.Questions.{Verdict, accepted, accepting, namesOf, enoughTree, byNumber, byVerdict, asked, turnedDown, taken}
+use Rattle.questions.specs.Questions.{Verdict, accepted, accepting, namesOf, byNumber, byVerdict, asked, turnedDown, taken}
 use Rattle.questions.proofs.Asked.{asked-accepted}
 use Rattle.answer.specs.Calls.{enoughValues, enoughListing, met15, answered, questionsTaking, taking, valuesAfter, own, lent14, lent, questionsListing, listingOf, shown, showing}
 use Rattle.answer.specs.Demand3.{OwnTree, SaysSatisfiable, SetsAndSatisfies, Takes, Lists, ForEveryAcceptedFile}
 use Rattle.answer.proofs.Questions.{FiveMet, five-met, five-of, lent-all, lent-met}
-use Rattle.answer.proofs.Acceptance.{accepted-table, short-names}
+use Rattle.questions.proofs.Acceptance.{accepted-table}
+use Rattle.answer.proofs.Acceptance.{short-names}
 use Rattle.answer.proofs.Bits.{bits-back, bits-same, bits-binary, bits-length}
 use Rattle.answer.proofs.Showing.{lent-model}
 
@@ -70,7 +73,7 @@ said (some a) p q = go (a .word) (a .numbers) q
     go unknown ls q = clash q refl
 
 module _ (file : List ℕ) (T : Table) (a : accepting file ≡ accepted T) where
-  module _ (tree answer values : List ℕ) where
+  module _ (tree : List Node) (answer values : List ℕ) where
     abbrev Met : Type 0
     Met = FiveMet (met10 T tree) (met12 answer) (met13 answer) (met14 (variables T) answer) (met15 T (answered T answer))
 
@@ -112,7 +115,7 @@ module _ (file : List ℕ) (T : Table) (a : accepting file ≡ accepted T) where
       takes o l = (
         λ t. sets-of (takes-met (t .handed-back) .1),
         λ h. subst (λ (ks : List Lit). Takes file tree answer values T (truths (variables T) ks)) said-numbers
-            (met-takes (and-in (enoughTree tree) (enoughValues values) (leb-in 5120 (length tree) (o .long)) (leb-in 8191 (length values) l)) (met-of (o .own) h)),
+            (met-takes (and-in (enoughTree tree) (enoughValues values) (leb-in 1024 (length tree) (o .long)) (leb-in 8191 (length values) l)) (met-of (o .own) h)),
       )
 
     pub takes-no-other : (ns : List ℕ) → taking file tree answer values ≡ taken ns
@@ -125,7 +128,7 @@ module _ (file : List ℕ) (T : Table) (a : accepting file ≡ accepted T) where
           short = leb-sound (length answer) 65536 (and-l (leb (length answer) 65536) (isSome (answerOf answer)) (m .twelfth));
           formed = said (answerOf answer) (and-r (leb (length answer) 65536) (isSome (answerOf answer)) (m .twelfth)) (m .thirteenth);
         } in
-        let o : OwnTree T tree = record { long = leb-sound 5120 (length tree) (and-l (enoughTree tree) (enoughValues values) (r .0)); own = m .tenth } in
+        let o : OwnTree T tree = record { long = leb-sound 1024 (length tree) (and-l (enoughTree tree) (enoughValues values) (r .0)); own = m .tenth } in
         (ls, s, sets-of ls s m, o, leb-sound 8191 (length values) (and-r (enoughTree tree) (enoughValues values) (r .0)), met-takes (r .0) m)
 
     pub are-models : (ns : List ℕ) → taking file tree answer values ≡ taken ns → (vs : List Bool) × Model T vs × Takes file tree answer values T vs
@@ -133,7 +136,7 @@ module _ (file : List ℕ) (T : Table) (a : accepting file ≡ accepted T) where
         let r = takes-no-other ns e in
         (truths (variables T) (r .0), record { whole = truths-length (variables T) (r .0); true-clauses = r .2 .satisfied }, r .5)
 
-  pub all-models : (vs : List Bool) → Model T vs → (tree values : List ℕ) → OwnTree T tree → 8191 ≤ length values → (answer : List ℕ) × Takes file tree answer values T vs
+  pub all-models : (vs : List Bool) → Model T vs → (tree : List Node) (values : List ℕ) → OwnTree T tree → 8191 ≤ length values → (answer : List ℕ) × Takes file tree answer values T vs
   all-models vs m tree values o l =
       let h : length vs ≤ 9999 = omega (arith, m .whole, (accepted-table file T a) .few-variables) in
       let ls = literals 1 vs in
@@ -150,7 +153,7 @@ module _ (file : List ℕ) (T : Table) (a : accepting file ≡ accepted T) where
       )
 
   -- Listings -------------------------------------------------------------------------------------------------------------------------
-  module _ (tree values text : List ℕ) where
+  module _ (tree : List Node) (values text : List ℕ) where
     abbrev allEnough : Bool
     allEnough = enoughTree tree && (enoughValues values && enoughListing text)
 
@@ -181,26 +184,26 @@ module _ (file : List ℕ) (T : Table) (a : accepting file ≡ accepted T) where
         let q = lent-met (met10 T tree) (lent14 T values) (met15 T (lent T values)) (r .1) in
         let b = and-r (enoughTree tree) (enoughValues values && enoughListing text) (r .0) in
         let l = leb-sound 8191 (length values) (and-l (enoughValues values) (enoughListing text) b) in
-        let o : OwnTree T tree = record { long = leb-sound 5120 (length tree) (and-l (enoughTree tree) (enoughValues values && enoughListing text) (r .0)); own = q .0 } in
+        let o : OwnTree T tree = record { long = leb-sound 1024 (length tree) (and-l (enoughTree tree) (enoughValues values && enoughListing text) (r .0)); own = q .0 } in
         let m = lent-model T (accepted-table file T a) values l (q .2) in
         let g = demand3 T ((accepted-table file T a) .sound) .gives (lent T values) m in
         (lent T values, g .0, m, g .1, sym (bits-same (own T values) (q .1)), o, l, leb-sound 24576 (length text) (and-r (enoughValues values) (enoughListing text) b), shows (r .0) (q .0) (q .1) (q .2) m (g .0) (g .1))
 
-  pub lists : (tree more text : List ℕ) (vs : List Bool) (t : Tree) → OwnTree T tree → 8191 ≤ length (bits vs ++ more) → 24576 ≤ length text
+  pub lists : (tree : List Node) (more text : List ℕ) (vs : List Bool) (t : Tree) → OwnTree T tree → 8191 ≤ length (bits vs ++ more) → 24576 ≤ length text
       → Model T vs → Gives T vs t → Lists file tree (bits vs ++ more) text t
   lists tree more text vs t o l k m g =
       let values = bits vs ++ more in
       let w : own T values ≡ bits vs = take-at (bits vs) more (variables T) (bits-length vs ∙ m .whole) in
       let z : lent T values ≡ vs = ap truthsIn w ∙ bits-back vs in
       shows tree values text
-      (and-in (enoughTree tree) (enoughValues values && enoughListing text) (leb-in 5120 (length tree) (o .long)) (and-in (enoughValues values) (enoughListing text) (leb-in 8191 (length values) l) (leb-in 24576 (length text) k)))
+      (and-in (enoughTree tree) (enoughValues values && enoughListing text) (leb-in 1024 (length tree) (o .long)) (and-in (enoughValues values) (enoughListing text) (leb-in 8191 (length values) l) (leb-in 24576 (length text) k)))
       (o .own) (ap (all (λ v. leb v 1)) w ∙ bits-binary vs)
       (subst (λ (ws : List Bool). met15 T ws ≡ true) (sym z) (m .true-clauses))
       (subst (λ (ws : List Bool). Model T ws) (sym z) m)
       t (subst (λ (ws : List Bool). Gives T ws t) (sym z) g)
 
   -- an answer taken and then listed
-  pub then-lists : (tree answer values text ns : List ℕ) → taking file tree answer values ≡ taken ns → 24576 ≤ length text
+  pub then-lists : (tree : List Node) (answer values text ns : List ℕ) → taking file tree answer values ≡ taken ns → 24576 ≤ length text
       → (vs : List Bool) × (t : Tree) × Model T vs × Gives T vs t × TreeOf T t × Takes file tree answer values T vs × Lists file tree (valuesAfter file tree answer values) text t
   then-lists tree answer values text ns e k =
       let c = takes-no-other tree answer values ns e in
@@ -211,14 +214,14 @@ module _ (file : List ℕ) (T : Table) (a : accepting file ≡ accepted T) where
       (m .0, g .0, m .1, g .1, g .2, m .2, subst (λ (w : List ℕ). Lists file tree w text (g .0)) (sym (m .2 .left)) (lists tree (drop (variables T) values) text (m .0) (g .0) (c .3) h k (m .1) (g .1)))
 
 -- a table's own records, with anything behind them
-own-trees : (T : Table) (more : List ℕ) → 5120 ≤ length (treeWords (records T) ++ more) → OwnTree T (treeWords (records T) ++ more)
+own-trees : (T : Table) (more : List Node) → 1024 ≤ length (treeOf T ++ more) → OwnTree T (treeOf T ++ more)
 own-trees T more l = record {
   long = l;
-  own = all-in (λ i. eqb (getD (treeWords (records T) ++ more) i 0) (getD (treeWords (records T)) i 0)) (upTo (length (treeWords (records T))))
+  own = all-in (λ i. sameNode (getD (treeOf T ++ more) i blank) (getD (treeOf T) i blank)) (upTo (length (treeOf T)))
       (λ i h.
-      subst (λ (k : ℕ). eqb k (getD (treeWords (records T)) i 0) ≡ true)
-      (sym (List·getD-append (treeWords (records T)) more 0 i (upTo-range i (length (treeWords (records T))) h)))
-      (eqb-same (getD (treeWords (records T)) i 0)));
+      subst (λ (n : Node). sameNode n (getD (treeOf T) i blank) ≡ true)
+      (sym (List·getD-append (treeOf T) more blank i (upTo-range i (length (treeOf T)) h)))
+      (node-same (getD (treeOf T) i blank)));
 }
 
 pub demand3-whole : ForEveryAcceptedFile

@@ -10,14 +10,16 @@ use lib.Seq.{length-take-le}
 use Rattle.planning.specs.Table.{Table}
 use Rattle.planning.specs.Record.{records}
 use Rattle.table.specs.Layout.{namePartsFrom}
-use Rattle.tree.specs.Words.{treeWords, met10}
+use Rattle.nodes.specs.Nodes.{nodesOf}
+use Rattle.nodes.specs.Tree.{met10}
+use Rattle.tree.specs.Words.{treeWords}
 use Rattle.shape.specs.Shape.{Indexed}
 use Rattle.listing.specs.Listing.{Names, shownNames, ShortNames}
 use Rattle.listing.specs.Walk.{Listable}
 use Rattle.questions.specs.Questions.{accepted, ifMet, accepting, namesOf}
 use Rattle.questions.specs.Parts.{IsPrepared}
 use Rattle.questions.specs.declared.Prepared.{Prepared}
-use Rattle.questions.proofs.Compared.{tree-length, lent-front}
+use Rattle.questions.proofs.Compared.{tree-length, own-words, lent-front}
 use Rattle.answer.proofs.Acceptance.{short-names}
 
 module _ (file : List ℕ) {T : Table} {p : Prepared} (h : IsPrepared file T p) (z : p .question ≡ 0) where
@@ -37,11 +39,11 @@ module _ (file : List ℕ) {T : Table} {p : Prepared} (h : IsPrepared file T p) 
   words : p .nodes * 5 ≡ length (treeWords (records T))
   words = omega (arith, h .nodes z, tree-length T)
 
-  module _ (tree values : List ℕ) {ix : List ℕ} (own : met10 T tree ≡ true) (k : 5120 ≤ length tree) (l : 8191 ≤ length values) (x : Indexed T ix) where
+  module _ (tree values : List ℕ) {ix : List ℕ} (own : met10 T (nodesOf tree) ≡ true) (k : 5120 ≤ length tree) (l : 8191 ≤ length values) (x : Indexed T ix) where
     pub listable : Listable (p .table) file T ix (take (p .nodes * 5) tree) (take (p .variables) values)
     listable = record {
       indexed = x;
-      words = lent-front T tree words own (omega (arith, few-nodes));
+      words = lent-front T tree words (own-words T (h .accepted z) tree k ∙ own) (omega (arith, few-nodes));
       long = omega (arith, h .variables z, length-take-le (p .variables) values (omega (arith, few-values)));
       short = subst (λ (N : Names). ShortNames N) (sym own-names) (short-names file T prepared-as);
     }

@@ -11,5 +11,6 @@ pub mod Lending
 pub mod Showing
 pub mod Loops
 pub mod Outcomes
+pub mod Lent
 -- demand 3
 pub mod Demand3

@@ -1,6 +1,6 @@
 -- What each call answers and leaves, question by question.
 -- By the definition of the calls.
-use mathlib.Core.Path.{_≡_, sym, _∙_}
+use mathlib.Core.Path.{_≡_, sym, _∙_, subst}
 use mathlib.Core.Bool.{Bool, true, false, _&&_}
 use mathlib.Core.List.{List, [], _∷_, _++_}
 use Prim.Native.Nat.{ℕ, _≤_, _<_}
@@ -9,7 +9,11 @@ use Rattle.lists.proofs.Bool.{leb-in, and-off, leb-no}
 use Rattle.planning.specs.Table.{Table}
 use Rattle.planning.specs.Variable.{variables}
 use Rattle.planning.specs.Model.{bits}
-use Rattle.questions.specs.Questions.{enoughTree, turnedDown, taken}
+use Rattle.nodes.specs.Nodes.{nodesOf, lentIn}
+use Rattle.nodes.specs.Tree.{enoughTree}
+use Rattle.nodes.specs.declared.Node.{Node}
+use Rattle.nodes.proofs.Words.{lent-all}
+use Rattle.questions.specs.Questions.{turnedDown, taken}
 use Rattle.questions.specs.Parts.{IsPrepared}
 use Rattle.questions.specs.declared.Prepared.{Prepared}
 use Rattle.questions.proofs.Asked.{asked-short, asked-unmet, asked-met}
@@ -19,22 +23,22 @@ use Rattle.answer.specs.declared.Taken.{Taken}
 use Rattle.answer.specs.declared.Listed.{Listed}
 
 -- Taking an answer -----------------------------------------------------------------------------------------------------------------
-module _ (file tree answer values : List ℕ) where
+module _ (file : List ℕ) (tree : List Node) (answer values : List ℕ) where
   pub take-short : (enoughTree tree && enoughValues values) ≡ false → (turnedDown 1 ≡ taking file tree answer values) × (values ≡ valuesAfter file tree answer values)
   take-short e = (
     sym (asked-short file (questionsTaking tree answer) turnedDown (λ T. taken (variables T ∷ [])) e),
     sym (asked-short file (questionsTaking tree answer) (λ n. values) (λ T. bits (answered T answer) ++ drop (variables T) values) e),
   )
 
-  pub take-short-tree : length tree < 5120 → (enoughTree tree && enoughValues values) ≡ false
-  take-short-tree h = rw (leb-no 5120 (length tree) h)
+  pub take-short-tree : length tree < 1024 → (enoughTree tree && enoughValues values) ≡ false
+  take-short-tree h = rw (leb-no 1024 (length tree) h)
 
   pub take-short-values : length values < 8191 → (enoughTree tree && enoughValues values) ≡ false
   take-short-values h = rw (leb-no 8191 (length values) h) (and-off (enoughTree tree))
 
-  module _ (h : 5120 ≤ length tree) (k : 8191 ≤ length values) {T : Table} {p : Prepared} (prepared : IsPrepared file T p) where
+  module _ (h : 1024 ≤ length tree) (k : 8191 ≤ length values) {T : Table} {p : Prepared} (prepared : IsPrepared file T p) where
     enough : (enoughTree tree && enoughValues values) ≡ true
-    enough = rw (leb-in 5120 (length tree) h, leb-in 8191 (length values) k)
+    enough = rw (leb-in 1024 (length tree) h, leb-in 8191 (length values) k)
 
     pub take-unmet : (p .question ≡ 0 → ⊥) → (turnedDown (p .question) ≡ taking file tree answer values) × (values ≡ valuesAfter file tree answer values)
     take-unmet u = (
@@ -50,7 +54,7 @@ module _ (file tree answer values : List ℕ) where
     )
 
 -- Listing a procedure --------------------------------------------------------------------------------------------------------------
-module _ (file tree values text : List ℕ) where
+module _ (file : List ℕ) (tree : List Node) (values text : List ℕ) where
   abbrev pub lentEnough : Bool
   lentEnough = enoughTree tree && (enoughValues values && enoughListing text)
 
@@ -60,8 +64,8 @@ module _ (file tree values text : List ℕ) where
     sym (asked-short file (questionsListing tree values) (λ n. text) (λ T. shown file values T ++ drop (length (shown file values T)) text) e),
   )
 
-  pub list-short-tree : length tree < 5120 → lentEnough ≡ false
-  list-short-tree h = rw (leb-no 5120 (length tree) h)
+  pub list-short-tree : length tree < 1024 → lentEnough ≡ false
+  list-short-tree h = rw (leb-no 1024 (length tree) h)
 
   pub list-short-values : length values < 8191 → lentEnough ≡ false
   list-short-values h = rw (leb-no 8191 (length values) h) (and-off (enoughTree tree))
@@ -69,9 +73,9 @@ module _ (file tree values text : List ℕ) where
   pub list-short-text : length text < 24576 → lentEnough ≡ false
   list-short-text h = rw (leb-no 24576 (length text) h, and-off (enoughValues values)) (and-off (enoughTree tree))
 
-  module _ (h : 5120 ≤ length tree) (k : 8191 ≤ length values) (l : 24576 ≤ length text) {T : Table} {p : Prepared} (prepared : IsPrepared file T p) where
+  module _ (h : 1024 ≤ length tree) (k : 8191 ≤ length values) (l : 24576 ≤ length text) {T : Table} {p : Prepared} (prepared : IsPrepared file T p) where
     all-enough : lentEnough ≡ true
-    all-enough = rw (leb-in 5120 (length tree) h, leb-in 8191 (length values) k, leb-in 24576 (length text) l)
+    all-enough = rw (leb-in 1024 (length tree) h, leb-in 8191 (length values) k, leb-in 24576 (length text) l)
 
     pub list-unmet : (p .question ≡ 0 → ⊥) → (turnedDown (p .question) ≡ showing file tree values text) × (text ≡ listingAfter file tree values text)
     list-unmet u = (
@@ -85,3 +89,10 @@ module _ (file tree values text : List ℕ) where
       s .handed-back ∙ sym (asked-met file (questionsListing tree values) turnedDown (λ T. taken (length (shown file values T) ∷ [])) prepared all-enough z),
       s .left ∙ sym (asked-met file (questionsListing tree values) (λ n. text) (λ T. shown file values T ++ drop (length (shown file values T)) text) prepared all-enough z),
     )
+
+-- All 1,024 records were lent ------------------------------------------------------------------------------------------------------------
+pub took-all : {T : Table} {lent : ℕ} {answer values values′ : List ℕ} {r : Taken} (words : List ℕ) → 5120 ≤ length words → 1024 ≤ lent → Took T (nodesOf words) answer values values′ r → Took T (lentIn lent words) answer values values′ r
+took-all {T} {lent} {answer} {values} {values′} {r} words k h t = subst (λ (tree : List Node). Took T tree answer values values′ r) (sym (lent-all words k h)) t
+
+pub showed-all : {file : List ℕ} {T : Table} {lent : ℕ} {values text text′ : List ℕ} {r : Listed} (words : List ℕ) → 5120 ≤ length words → 1024 ≤ lent → Showed file T (nodesOf words) values text text′ r → Showed file T (lentIn lent words) values text text′ r
+showed-all {file} {T} {lent} {values} {text} {text′} {r} words k h t = subst (λ (tree : List Node). Showed file T tree values text text′ r) (sym (lent-all words k h)) t

@@ -19,7 +19,8 @@ use Rattle.planning.specs.Clause.{formula}
 use Rattle.planning.specs.Model.{value, satisfies, Model, truthsIn}
 use Rattle.planning.specs.Accepted.{Accepted}
 use Rattle.planning.proofs.Demand3.{demand3}
-use Rattle.tree.specs.Words.{met10}
+use Rattle.nodes.specs.Tree.{met10}
+use Rattle.nodes.specs.declared.Node.{Node}
 use Rattle.listing.specs.Listing.{Names, shownNames}
 use Rattle.listing.specs.Walk.{walked, valueOf}
 use Rattle.listing.proofs.Walked.{walked-is}
@@ -29,7 +30,7 @@ use Rattle.answer.specs.Parts.{Showed}
 use Rattle.answer.specs.declared.Listed.the-variants.{Refused, Written}
 use Rattle.answer.proofs.Questions.{lent-10, lent-14, lent-15, lent-all}
 
-refused-by : {file : List ℕ} {T : Table} {tree values text : List ℕ} {q : ℕ} → firstUnmet (questionsListing tree values T) ≡ q → (q ≡ 0 → ⊥) → Showed file T tree values text text (Refused q)
+refused-by : {file : List ℕ} {T : Table} {tree : List Node} {values text : List ℕ} {q : ℕ} → firstUnmet (questionsListing tree values T) ≡ q → (q ≡ 0 → ⊥) → Showed file T tree values text text (Refused q)
 refused-by {file} {T} {tree} {values} {text} {q} e u = go q e u
   where
     go : (q : ℕ) → firstUnmet (questionsListing tree values T) ≡ q → (q ≡ 0 → ⊥) → Showed file T tree values text text (Refused q)
@@ -52,7 +53,7 @@ module _ (T : Table) (a : Accepted T) (values : List ℕ) (long : 8191 ≤ lengt
       let g = demand3 T (a .sound) .gives (lent T values) m in
       walked-is N m (g .1) ∙ sym (ap (listingOf N) (g .1))
 
-module _ (file : List ℕ) (T : Table) (tree values text : List ℕ) where
+module _ (file : List ℕ) (T : Table) (tree : List Node) (values text : List ℕ) where
   pub other-tree : met10 T tree ≡ false → Showed file T tree values text text (Refused 10)
   other-tree e = refused-by (lent-10 (met10 T tree) (lent14 T values) (met15 T (lent T values)) e) (λ z. omega arith)
 

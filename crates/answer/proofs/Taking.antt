@@ -12,7 +12,8 @@ use Rattle.planning.specs.Table.{Table}
 use Rattle.planning.specs.Variable.{variables}
 use Rattle.planning.specs.Clause.{formula}
 use Rattle.planning.specs.Model.{value, satisfies, bits, truthsIn}
-use Rattle.tree.specs.Words.{met10}
+use Rattle.nodes.specs.Tree.{met10}
+use Rattle.nodes.specs.declared.Node.{Node}
 use Rattle.solver.specs.File.{answerOf}
 use Rattle.solver.specs.Questions.{met12, met13, met14, numbersSaid}
 use Rattle.solver.specs.Scan.{Heard}
@@ -35,14 +36,14 @@ pub copy-room : (values : List ℕ) {n q : ℕ} {answer cells : List ℕ} → He
 copy-room values {n} {q} {answer} {cells} r h l = omega (arith, length-take n cells)
 
 -- the first question that is not met is q, which is not 0
-refused-by : {T : Table} {tree answer values : List ℕ} {q : ℕ} → firstUnmet (questionsTaking tree answer T) ≡ q → (q ≡ 0 → ⊥) → Took T tree answer values values (Refused q)
+refused-by : {T : Table} {tree : List Node} {answer values : List ℕ} {q : ℕ} → firstUnmet (questionsTaking tree answer T) ≡ q → (q ≡ 0 → ⊥) → Took T tree answer values values (Refused q)
 refused-by {T} {tree} {answer} {values} {q} e u = go q e u
   where
     go : (q : ℕ) → firstUnmet (questionsTaking tree answer T) ≡ q → (q ≡ 0 → ⊥) → Took T tree answer values values (Refused q)
     go zero e u = absurd (u refl)
     go (suc n) e u = record { handed-back = sym (rw e); left = sym (rw e) }
 
-module _ (T : Table) (tree answer values : List ℕ) where
+module _ (T : Table) (tree : List Node) (answer values : List ℕ) where
   abbrev b12 : Bool
   b12 = met12 answer
 

@@ -12,10 +12,11 @@ use Rattle.planning.specs.Tree.{Tree}
 use Rattle.planning.specs.Variable.{variables}
 use Rattle.planning.specs.Clause.{formula}
 use Rattle.planning.specs.Model.{value, satisfies, given, bits, truthsIn}
-use Rattle.tree.specs.Words.{met10}
+use Rattle.nodes.specs.Tree.{enoughTree, met10}
+use Rattle.nodes.specs.declared.Node.{Node}
 use Rattle.solver.specs.Questions.{met12, met13, met14, valuesOf}
 use Rattle.listing.specs.Listing.{Names, shownNames, listing}
-use Rattle.questions.specs.Questions.{enoughTree, namesOf, asked, HandedBack, turnedDown, taken}
+use Rattle.questions.specs.Questions.{namesOf, asked, HandedBack, turnedDown, taken}
 use Rattle.answer.specs.declared.Taken.{Taken}
 use Rattle.answer.specs.declared.Taken.the-variants.{Refused as TakeRefused, Values}
 use Rattle.answer.specs.declared.Listed.{Listed}
@@ -28,8 +29,8 @@ enoughValues values = leb 8191 (length values)
 abbrev pub enoughListing : List ℕ → Bool
 enoughListing text = leb 24576 (length text)
 
--- 15. "Is every clause satisfied?" (1 of the tree, 8 and 9 stand in crate `questions`, 2 to 7 in `table`, 10 in `tree`, 12 to 14 of an answer file
--- in `solver`.)
+-- 15. "Is every clause satisfied?" (8 and 9 stand in crate `questions`, 2 to 7 in `table`, 1 of the tree and 10 in `nodes`, 12 to 14 of an answer
+-- file in `solver`.)
 abbrev pub met15 : Table → List Bool → Bool
 met15 T vs = satisfies (value vs) (formula T)
 
@@ -42,18 +43,18 @@ takenFrom (Values n) = taken (n ∷ [])
 abbrev pub answered : Table → List ℕ → List Bool
 answered T answer = valuesOf (variables T) answer
 
-abbrev pub questionsTaking : (tree answer : List ℕ) → Table → List (ℕ × Bool)
+abbrev pub questionsTaking : (tree : List Node) (answer : List ℕ) → Table → List (ℕ × Bool)
 questionsTaking tree answer T =
     (10, met10 T tree) ∷ (12, met12 answer) ∷ (13, met13 answer) ∷ (14, met14 (variables T) answer) ∷ (15, met15 T (answered T answer)) ∷ []
 
 -- it hands back how many values there are
-abbrev pub taking : (file tree answer values : List ℕ) → HandedBack
+abbrev pub taking : (file : List ℕ) (tree : List Node) (answer values : List ℕ) → HandedBack
 taking file tree answer values =
     asked (enoughTree tree && enoughValues values) file (questionsTaking tree answer) turnedDown (λ T. taken (variables T ∷ []))
 
 -- "An answer taken leaves variable j's value at place j of the values, counted from 1: 1 if true, 0 if false"; the others keep their
 -- contents
-abbrev pub valuesAfter : (file tree answer values : List ℕ) → List ℕ
+abbrev pub valuesAfter : (file : List ℕ) (tree : List Node) (answer values : List ℕ) → List ℕ
 valuesAfter file tree answer values =
     asked (enoughTree tree && enoughValues values) file (questionsTaking tree answer) (λ n. values)
     (λ T. bits (answered T answer) ++ drop (variables T) values)
@@ -74,7 +75,7 @@ lent14 T values = all (λ v. leb v 1) (own T values)
 abbrev pub lent : Table → List ℕ → List Bool
 lent T values = truthsIn (own T values)
 
-abbrev pub questionsListing : (tree values : List ℕ) → Table → List (ℕ × Bool)
+abbrev pub questionsListing : (tree : List Node) (values : List ℕ) → Table → List (ℕ × Bool)
 questionsListing tree values T = (10, met10 T tree) ∷ (14, lent14 T values) ∷ (15, met15 T (lent T values)) ∷ []
 
 -- the listing of the tree that values give; values that meet 14 and 15 give one
@@ -86,13 +87,13 @@ abbrev pub shown : (file values : List ℕ) → Table → List ℕ
 shown file values T = listingOf (shownNames file (namesOf file)) (given T (lent T values))
 
 -- it hands back how many bytes are used
-abbrev pub showing : (file tree values text : List ℕ) → HandedBack
+abbrev pub showing : (file : List ℕ) (tree : List Node) (values text : List ℕ) → HandedBack
 showing file tree values text =
     asked (enoughTree tree && (enoughValues values && enoughListing text)) file (questionsListing tree values) turnedDown
     (λ T. taken (length (shown file values T) ∷ []))
 
 -- later bytes keep their contents
-abbrev pub listingAfter : (file tree values text : List ℕ) → List ℕ
+abbrev pub listingAfter : (file : List ℕ) (tree : List Node) (values text : List ℕ) → List ℕ
 listingAfter file tree values text =
     asked (enoughTree tree && (enoughValues values && enoughListing text)) file (questionsListing tree values) (λ n. text)
     (λ T. shown file values T ++ drop (length (shown file values T)) text)

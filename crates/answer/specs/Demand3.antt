@@ -11,12 +11,12 @@ use lib.ListN.{length, take, drop}
 use Rattle.lists.specs.List.{Every}
 use Rattle.planning.specs.Table.{Table}
 use Rattle.planning.specs.Tree.{Tree, TreeOf}
-use Rattle.planning.specs.Record.{records}
 use Rattle.planning.specs.Variable.{variables}
 use Rattle.planning.specs.Clause.{Lit, variableOf, formula}
 use Rattle.planning.specs.Model.{value, satisfies, Model, Gives, bits}
 use Rattle.planning.specs.Demand3.{Demand3}
-use Rattle.tree.specs.Words.{treeWords, met10}
+use Rattle.nodes.specs.Tree.{treeOf, met10}
+use Rattle.nodes.specs.declared.Node.{Node}
 use Rattle.solver.specs.Line.{satisfiable}
 use Rattle.solver.specs.File.{answerOf}
 use Rattle.solver.specs.Questions.{times, truths}
@@ -29,8 +29,8 @@ abbrev pub AcceptedAs : List ℕ → Table → Type 0
 AcceptedAs file T = accepting file ≡ accepted T
 
 -- "its own tree where one is read": long enough, and its first records are the table's (question 10)
-pub record OwnTree (T : Table) (tree : List ℕ) : Type 0 where
-  pub long : 5120 ≤ length tree
+pub record OwnTree (T : Table) (tree : List Node) : Type 0 where
+  pub long : 1024 ≤ length tree
   pub own : met10 T tree ≡ true
 
 -- "an answer file of at most 65,536 bytes, formed as there, that says SATISFIABLE", and its numbers before the 0
@@ -45,12 +45,12 @@ pub record SetsAndSatisfies (T : Table) (ls : List Lit) : Type 0 where
   pub satisfied : satisfies (value (truths (variables T) ls)) (formula T) ≡ true
 
 -- the call took the answer and left these values
-pub record Takes (file tree answer values : List ℕ) (T : Table) (vs : List Bool) : Type 0 where
+pub record Takes (file : List ℕ) (tree : List Node) (answer values : List ℕ) (T : Table) (vs : List Bool) : Type 0 where
   pub handed-back : taking file tree answer values ≡ taken (variables T ∷ [])
   pub left : valuesAfter file tree answer values ≡ bits vs ++ drop (variables T) values
 
 -- the call listed the tree t
-pub record Lists (file tree values text : List ℕ) (t : Tree) : Type 0 where
+pub record Lists (file : List ℕ) (tree : List Node) (values text : List ℕ) (t : Tree) : Type 0 where
   pub handed-back : showing file tree values text ≡ taken (length (listing (shownNames file (namesOf file)) t) ∷ [])
   pub left : listingAfter file tree values text ≡ listing (shownNames file (namesOf file)) t ++ drop (length (listing (shownNames file (namesOf file)) t)) text
   pub fits : length (listing (shownNames file (namesOf file)) t) ≤ 24576
@@ -58,29 +58,29 @@ pub record Lists (file tree values text : List ℕ) (t : Tree) : Type 0 where
 pub record Demand3Whole (file : List ℕ) (T : Table) : Type 0 where
   -- "an answer file of at most 65,536 bytes, formed as there, that says SATISFIABLE is taken exactly if it sets each variable once and no
   -- other and satisfies every clause"
-  pub takes : (tree answer values : List ℕ) (ls : List Lit) → OwnTree T tree → 8191 ≤ length values → SaysSatisfiable answer ls
+  pub takes : (tree : List Node) (answer values : List ℕ) (ls : List Lit) → OwnTree T tree → 8191 ≤ length values → SaysSatisfiable answer ls
       → Takes file tree answer values T (truths (variables T) ls) ↔ SetsAndSatisfies T ls
   -- (there is such a tree: the table's records, with anything behind them)
-  pub own-trees : (more : List ℕ) → 5120 ≤ length (treeWords (records T) ++ more) → OwnTree T (treeWords (records T) ++ more)
+  pub own-trees : (more : List Node) → 1024 ≤ length (treeOf T ++ more) → OwnTree T (treeOf T ++ more)
   -- "the answers taken are those of demand 2": no other is, and with no other tree and no shorter buffer,
-  pub takes-no-other : (tree answer values ns : List ℕ) → taking file tree answer values ≡ taken ns
+  pub takes-no-other : (tree : List Node) (answer values ns : List ℕ) → taking file tree answer values ≡ taken ns
       → (ls : List Lit) × SaysSatisfiable answer ls × SetsAndSatisfies T ls × OwnTree T tree × (8191 ≤ length values) × Takes file tree answer values T (truths (variables T) ls)
   -- "and their values are a model";
-  pub are-models : (tree answer values ns : List ℕ) → taking file tree answer values ≡ taken ns → (vs : List Bool) × Model T vs × Takes file tree answer values T vs
+  pub are-models : (tree : List Node) (answer values ns : List ℕ) → taking file tree answer values ≡ taken ns → (vs : List Bool) × Model T vs × Takes file tree answer values T vs
   -- no model is left out: each is the values of an answer that is taken
-  pub all-models : (vs : List Bool) → Model T vs → (tree values : List ℕ) → OwnTree T tree → 8191 ≤ length values → (answer : List ℕ) × Takes file tree answer values T vs
+  pub all-models : (vs : List Bool) → Model T vs → (tree : List Node) (values : List ℕ) → OwnTree T tree → 8191 ≤ length values → (answer : List ℕ) × Takes file tree answer values T vs
   -- "every model gives a procedure tree of the table; two models are equal at every variable exactly when they give the same tree; a
   -- procedure tree of the table, of whatever height, is given by a model exactly when it starts at the root job, is no higher than the depth,
   -- and its steps can be done left to right from the initial facts" (`gives`, `apart`, `exact`)
   pub trees : Demand3 T
   -- "the listing then shows the procedure tree that those values describe": of the values that the call left,
-  pub then-lists : (tree answer values text ns : List ℕ) → taking file tree answer values ≡ taken ns → 24576 ≤ length text
+  pub then-lists : (tree : List Node) (answer values text ns : List ℕ) → taking file tree answer values ≡ taken ns → 24576 ≤ length text
       → (vs : List Bool) × (t : Tree) × Model T vs × Gives T vs t × TreeOf T t × Takes file tree answer values T vs × Lists file tree (valuesAfter file tree answer values) text t
   -- and of any model's values, with anything behind them;
-  pub lists : (tree more text : List ℕ) (vs : List Bool) (t : Tree) → OwnTree T tree → 8191 ≤ length (bits vs ++ more) → 24576 ≤ length text
+  pub lists : (tree : List Node) (more text : List ℕ) (vs : List Bool) (t : Tree) → OwnTree T tree → 8191 ≤ length (bits vs ++ more) → 24576 ≤ length text
       → Model T vs → Gives T vs t → Lists file tree (bits vs ++ more) text t
   -- no other values are listed, and with no other tree and no shorter buffer
-  pub lists-no-other : (tree values text ns : List ℕ) → showing file tree values text ≡ taken ns
+  pub lists-no-other : (tree : List Node) (values text ns : List ℕ) → showing file tree values text ≡ taken ns
       → (vs : List Bool) × (t : Tree) × Model T vs × Gives T vs t × (take (variables T) values ≡ bits vs) × OwnTree T tree × (8191 ≤ length values) × (24576 ≤ length text)
       × Lists file tree values text t
 

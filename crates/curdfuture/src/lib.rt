@@ -3,8 +3,10 @@
 // too stay as they were. A slice is passed as a pointer and a length.
 ghost use mathlib.Core.Path.{_≡_};
 ghost use mathlib.Core.List.{[], _∷_};
-ghost use Rattle.encoding.specs.Calls.{checking, building, treeAfter, writing, textAfter};
+ghost use Rattle.encoding.specs.Calls.{checking, building, writing, textAfter};
+ghost use Rattle.encoding.specs.Flat.{wordsAfter};
 ghost use Rattle.answer.specs.Calls.{taking, valuesAfter, showing, listingAfter};
+ghost use Rattle.nodes.specs.Nodes.{lentIn};
 ghost use Rattle.curdfuture.specs.Numbers.{Crossed};
 use answer::Listed;
 use answer::Taken;
@@ -41,9 +43,9 @@ pub extern "C" fn curdfuture_build<'a, 'b, 'c>(
     tree: &'b mut [u64],
     nodes: &'c mut usize,
 ) -> usize
-    ensures { λ r. ⌜ Crossed (building (now (file .entry)) (now (tree .entry))) (now (nodes .entry) ∷ []) (now (nodes .exit) ∷ []) r × (now (tree .exit) ≡ treeAfter (now (file .entry)) (now (tree .entry))) ⌝ }
+    ensures { λ r. ⌜ Crossed (building (now (file .entry)) (lentIn 1024 (now (tree .entry)))) (now (nodes .entry) ∷ []) (now (nodes .exit) ∷ []) r × (now (tree .exit) ≡ wordsAfter (now (file .entry)) 1024 (now (tree .entry))) ⌝ }
 {
-    let built = encoding::build(file, tree);
+    let built = encoding::flat::build(file, 1024, tree);
     match built {
         Built::Refused(question) => question,
         Built::Nodes(k) => {
@@ -63,9 +65,9 @@ pub extern "C" fn curdfuture_write_text<'a, 'b, 'c, 'd>(
     used: &'c mut usize,
     next: &'d mut usize,
 ) -> usize
-    ensures { λ r. ⌜ Crossed (writing (now (file .entry)) (now (tree .entry)) line (now (text .entry))) (now (used .entry) ∷ now (next .entry) ∷ []) (now (used .exit) ∷ now (next .exit) ∷ []) r × (now (text .exit) ≡ textAfter (now (file .entry)) (now (tree .entry)) line (now (text .entry))) ⌝ }
+    ensures { λ r. ⌜ Crossed (writing (now (file .entry)) (lentIn 1024 (now (tree .entry))) line (now (text .entry))) (now (used .entry) ∷ now (next .entry) ∷ []) (now (used .exit) ∷ now (next .exit) ∷ []) r × (now (text .exit) ≡ textAfter (now (file .entry)) (lentIn 1024 (now (tree .entry))) line (now (text .entry))) ⌝ }
 {
-    let text_written = encoding::write_text(file, tree, line, text);
+    let text_written = encoding::flat::write_text(file, 1024, tree, line, text);
     match text_written {
         Text::Refused(question) => question,
         Text::Written(n, j) => {
@@ -85,9 +87,9 @@ pub extern "C" fn curdfuture_take_answer<'a, 'b, 'c>(
     values: &'b mut [u8],
     count: &'c mut usize,
 ) -> usize
-    ensures { λ r. ⌜ Crossed (taking (now (file .entry)) (now (tree .entry)) (now (reply .entry)) (now (values .entry))) (now (count .entry) ∷ []) (now (count .exit) ∷ []) r × (now (values .exit) ≡ valuesAfter (now (file .entry)) (now (tree .entry)) (now (reply .entry)) (now (values .entry))) ⌝ }
+    ensures { λ r. ⌜ Crossed (taking (now (file .entry)) (lentIn 1024 (now (tree .entry))) (now (reply .entry)) (now (values .entry))) (now (count .entry) ∷ []) (now (count .exit) ∷ []) r × (now (values .exit) ≡ valuesAfter (now (file .entry)) (lentIn 1024 (now (tree .entry))) (now (reply .entry)) (now (values .entry))) ⌝ }
 {
-    let taken = answer::take_answer(file, tree, reply, values);
+    let taken = answer::flat::take_answer(file, 1024, tree, reply, values);
     match taken {
         Taken::Refused(question) => question,
         Taken::Values(n) => {
@@ -106,9 +108,9 @@ pub extern "C" fn curdfuture_list_procedure<'a, 'b, 'c>(
     listing: &'b mut [u8],
     used: &'c mut usize,
 ) -> usize
-    ensures { λ r. ⌜ Crossed (showing (now (file .entry)) (now (tree .entry)) (now (values .entry)) (now (listing .entry))) (now (used .entry) ∷ []) (now (used .exit) ∷ []) r × (now (listing .exit) ≡ listingAfter (now (file .entry)) (now (tree .entry)) (now (values .entry)) (now (listing .entry))) ⌝ }
+    ensures { λ r. ⌜ Crossed (showing (now (file .entry)) (lentIn 1024 (now (tree .entry))) (now (values .entry)) (now (listing .entry))) (now (used .entry) ∷ []) (now (used .exit) ∷ []) r × (now (listing .exit) ≡ listingAfter (now (file .entry)) (lentIn 1024 (now (tree .entry))) (now (values .entry)) (now (listing .entry))) ⌝ }
 {
-    let listed = answer::list_procedure(file, tree, values, listing);
+    let listed = answer::flat::list_procedure(file, 1024, tree, values, listing);
     match listed {
         Listed::Refused(question) => question,
         Listed::Written(k) => {

@@ -1,6 +1,6 @@
 -- What each call answers, question by question.
 -- By the definition of the calls.
-use mathlib.Core.Path.{_≡_, refl, sym, ap₂, _∙_}
+use mathlib.Core.Path.{_≡_, refl, sym, ap₂, _∙_, subst}
 use mathlib.Core.Bool.{true, false, _&&_}
 use mathlib.Core.List.{List, [], _∷_, _++_}
 use Prim.Native.Nat.{ℕ, _+_, _≤_, _<_}
@@ -16,23 +16,28 @@ use Rattle.planning.specs.Record.{records}
 use Rattle.planning.specs.Variable.{variables}
 use Rattle.planning.specs.Clause.{formula}
 use Rattle.planning.specs.Text.{written, bytesUsed, nextLine}
-use Rattle.tree.specs.Words.{treeWords, met10}
+use Rattle.nodes.specs.Nodes.{nodesOf, lentIn}
+use Rattle.nodes.specs.Tree.{enoughTree, met10}
+use Rattle.nodes.specs.declared.Node.{Node}
+use Rattle.nodes.proofs.Words.{lent-all, lent-enough}
+use Rattle.tree.specs.Words.{treeWords}
 use Rattle.text.specs.Lines.{PutText}
 use Rattle.text.specs.declared.Lines.{Lines}
-use Rattle.encoding.specs.Calls.{enoughText, textFrom, checking, building, treeAfter, questionsWriting, writing, textAfter}
+use Rattle.encoding.specs.Calls.{enoughText, textFrom, checking, building, questionsWriting, writing, textAfter}
+use Rattle.encoding.specs.Flat.{wordsAfter}
 use Rattle.encoding.specs.Parts.{Lined}
 use Rattle.encoding.specs.declared.Text.{Text}
 use Rattle.encoding.specs.declared.Text.the-variants.{Refused, Written}
-use Rattle.questions.specs.Questions.{enoughTree, turnedDown, taken}
+use Rattle.questions.specs.Questions.{turnedDown, taken}
 use Rattle.questions.specs.Parts.{IsPrepared}
 use Rattle.questions.specs.declared.Prepared.{Prepared}
 use Rattle.questions.proofs.Asked.{asked-short, asked-unmet, asked-met}
 
 -- Questions 10 and 11 ----------------------------------------------------------------------------------------------------------
-first-10 : (T : Table) (tree : List ℕ) (line : ℕ) → met10 T tree ≡ false → firstUnmet (questionsWriting tree line T) ≡ 10
+first-10 : (T : Table) (tree : List Node) (line : ℕ) → met10 T tree ≡ false → firstUnmet (questionsWriting tree line T) ≡ 10
 first-10 T tree line e = rw e
 
-module _ (T : Table) (tree : List ℕ) (line : ℕ) {o : List ℕ} where
+module _ (T : Table) (tree : List Node) (line : ℕ) {o : List ℕ} where
   pub other-tree : met10 T tree ≡ false → Lined T tree line o o (Refused 10)
   other-tree e = let f = first-10 T tree line e in record { answer = sym (rw f); left = sym (rw f) }
 
@@ -50,6 +55,10 @@ module _ (T : Table) (tree : List ℕ) (line : ℕ) {o : List ℕ} where
         left = wrote-whole (p .text) ∙ sym (rw f);
       }
 
+-- all 1,024 records were lent
+pub all-lent : {T : Table} {lent line : ℕ} {o o′ : List ℕ} {r : Text} (words : List ℕ) → 5120 ≤ length words → 1024 ≤ lent → Lined T (nodesOf words) line o o′ r → Lined T (lentIn lent words) line o o′ r
+all-lent {T} {lent} {line} {o} {o′} {r} words k h l = subst (λ (tree : List Node). Lined T tree line o o′ r) (sym (lent-all words k h)) l
+
 -- The calls --------------------------------------------------------------------------------------------------------------------
 module _ (file : List ℕ) {T : Table} {p : Prepared} (prepared : IsPrepared file T p) where
   pub check-unmet : (p .question ≡ 0 → ⊥) → turnedDown (p .question) ≡ checking file
@@ -60,46 +69,47 @@ module _ (file : List ℕ) {T : Table} {p : Prepared} (prepared : IsPrepared fil
       rw (prepared .nodes z, prepared .variables z, e)
       (sym (asked-met file (λ T. []) turnedDown (λ T. taken (nodes (rootPlace T) ∷ variables T ∷ length (formula T) ∷ [])) prepared {b = true} refl z))
 
-pub build-short : (file tree : List ℕ) → length tree < 5120 → (turnedDown 1 ≡ building file tree) × (tree ≡ treeAfter file tree)
-build-short file tree h =
-    let e : enoughTree tree ≡ false = leb-no 5120 (length tree) h in (
-      sym (asked-short file (λ T. []) turnedDown (λ T. taken (nodes (rootPlace T) ∷ [])) e),
-      sym (asked-short file (λ T. []) (λ n. tree) (λ T. treeWords (records T) ++ drop (length (treeWords (records T))) tree) e),
+module _ (file : List ℕ) (lent : ℕ) (words : List ℕ) where
+  pub build-short : length (lentIn lent words) < 1024 → (turnedDown 1 ≡ building file (lentIn lent words)) × (words ≡ wordsAfter file lent words)
+  build-short h =
+      let e : enoughTree (lentIn lent words) ≡ false = leb-no 1024 (length (lentIn lent words)) h in (
+        sym (asked-short file (λ T. []) turnedDown (λ T. taken (nodes (rootPlace T) ∷ [])) e),
+        sym (asked-short file (λ T. []) (λ n. words) (λ T. treeWords (records T) ++ drop (length (treeWords (records T))) words) e),
+      )
+
+  module _ (l : 5120 ≤ length words) (h : 1024 ≤ lent) {T : Table} {p : Prepared} (prepared : IsPrepared file T p) where
+    tree-enough : enoughTree (lentIn lent words) ≡ true
+    tree-enough = leb-in 1024 (length (lentIn lent words)) (lent-enough words l h)
+
+    pub build-unmet : (p .question ≡ 0 → ⊥) → (turnedDown (p .question) ≡ building file (lentIn lent words)) × (words ≡ wordsAfter file lent words)
+    build-unmet u = (
+      sym (asked-unmet file (λ T. []) turnedDown (λ T. taken (nodes (rootPlace T) ∷ [])) prepared tree-enough u),
+      sym (asked-unmet file (λ T. []) (λ n. words) (λ T. treeWords (records T) ++ drop (length (treeWords (records T))) words) prepared tree-enough u),
     )
 
-module _ (file tree : List ℕ) (h : 5120 ≤ length tree) {T : Table} {p : Prepared} (prepared : IsPrepared file T p) where
-  tree-enough : enoughTree tree ≡ true
-  tree-enough = leb-in 5120 (length tree) h
+    pub build-met : {words′ : List ℕ} {r : ℕ} → p .question ≡ 0 → Wrote words 0 (treeWords (records T)) words′ r
+        → (taken (p .nodes ∷ []) ≡ building file (lentIn lent words)) × (words′ ≡ wordsAfter file lent words)
+    build-met {words′} {r} z w = (
+      rw (prepared .nodes z) (sym (asked-met file (λ T. []) turnedDown (λ T. taken (nodes (rootPlace T) ∷ [])) prepared tree-enough z)),
+      wrote-whole w ∙ sym (asked-met file (λ T. []) (λ n. words) (λ T. treeWords (records T) ++ drop (length (treeWords (records T))) words) prepared tree-enough z),
+    )
 
-  pub build-unmet : (p .question ≡ 0 → ⊥) → (turnedDown (p .question) ≡ building file tree) × (tree ≡ treeAfter file tree)
-  build-unmet u = (
-    sym (asked-unmet file (λ T. []) turnedDown (λ T. taken (nodes (rootPlace T) ∷ [])) prepared tree-enough u),
-    sym (asked-unmet file (λ T. []) (λ n. tree) (λ T. treeWords (records T) ++ drop (length (treeWords (records T))) tree) prepared tree-enough u),
-  )
-
-  pub build-met : {tree′ : List ℕ} {r : ℕ} → p .question ≡ 0 → Wrote tree 0 (treeWords (records T)) tree′ r
-      → (taken (p .nodes ∷ []) ≡ building file tree) × (tree′ ≡ treeAfter file tree)
-  build-met {tree′} {r} z w = (
-    rw (prepared .nodes z) (sym (asked-met file (λ T. []) turnedDown (λ T. taken (nodes (rootPlace T) ∷ [])) prepared tree-enough z)),
-    wrote-whole w ∙ sym (asked-met file (λ T. []) (λ n. tree) (λ T. treeWords (records T) ++ drop (length (treeWords (records T))) tree) prepared tree-enough z),
-  )
-
-module _ (file tree : List ℕ) (line : ℕ) (text : List ℕ) where
+module _ (file : List ℕ) (tree : List Node) (line : ℕ) (text : List ℕ) where
   pub text-short : (enoughTree tree && enoughText text) ≡ false → (turnedDown 1 ≡ writing file tree line text) × (text ≡ textAfter file tree line text)
   text-short e = (
     sym (asked-short file (questionsWriting tree line) turnedDown (λ T. taken (bytesUsed T line (length text) ∷ nextLine T line (length text) ∷ [])) e),
     sym (asked-short file (questionsWriting tree line) (λ n. text) (λ T. written T line (length text) ++ drop (bytesUsed T line (length text)) text) e),
   )
 
-  pub short-tree : length tree < 5120 → (enoughTree tree && enoughText text) ≡ false
-  short-tree h = rw (leb-no 5120 (length tree) h)
+  pub short-tree : length tree < 1024 → (enoughTree tree && enoughText text) ≡ false
+  short-tree h = rw (leb-no 1024 (length tree) h)
 
   pub short-text : length text < 1024 → (enoughTree tree && enoughText text) ≡ false
   short-text h = rw (leb-no 1024 (length text) h) (and-off (enoughTree tree))
 
-  module _ (h : 5120 ≤ length tree) (k : 1024 ≤ length text) {T : Table} {p : Prepared} (prepared : IsPrepared file T p) where
+  module _ (h : 1024 ≤ length tree) (k : 1024 ≤ length text) {T : Table} {p : Prepared} (prepared : IsPrepared file T p) where
     enough : (enoughTree tree && enoughText text) ≡ true
-    enough = rw (leb-in 5120 (length tree) h, leb-in 1024 (length text) k)
+    enough = rw (leb-in 1024 (length tree) h, leb-in 1024 (length text) k)
 
     pub text-unmet : (p .question ≡ 0 → ⊥) → (turnedDown (p .question) ≡ writing file tree line text) × (text ≡ textAfter file tree line text)
     text-unmet u = (

@@ -7,12 +7,12 @@ use lib.Dec.{leb}
 use lib.ListN.{length, drop}
 use Rattle.planning.specs.Table.{Table}
 use Rattle.planning.specs.Place.{rootPlace, nodes}
-use Rattle.planning.specs.Record.{records}
 use Rattle.planning.specs.Variable.{variables}
 use Rattle.planning.specs.Clause.{formula}
 use Rattle.planning.specs.Text.{written, bytesUsed, nextLine}
-use Rattle.tree.specs.Words.{treeWords, met10}
-use Rattle.questions.specs.Questions.{enoughTree, asked, HandedBack, turnedDown, taken}
+use Rattle.nodes.specs.Tree.{treeOf, enoughTree, met10}
+use Rattle.nodes.specs.declared.Node.{Node}
+use Rattle.questions.specs.Questions.{asked, HandedBack, turnedDown, taken}
 use Rattle.encoding.specs.declared.Checked.{Checked}
 use Rattle.encoding.specs.declared.Checked.the-variants.{Refused as CheckRefused, Accepted as CheckAccepted}
 use Rattle.encoding.specs.declared.Built.{Built}
@@ -20,8 +20,8 @@ use Rattle.encoding.specs.declared.Built.the-variants.{Refused as BuildR
 use Rattle.encoding.specs.declared.Text.{Text}
 use Rattle.encoding.specs.declared.Text.the-variants.{Refused as TextRefused, Written}
 
--- 11. "Is the line asked for at most the clause count?" (1 of the tree, 8 and 9
--- stand in crate `questions`, 2 to 7 in `table`, 10 in `tree`, beside the form of the records.)
+-- 11. "Is the line asked for at most the clause count?" (8 and 9 stand in crate `questions`, 2 to 7 in `table`, 1 of the tree and 10 in `nodes`,
+-- beside the form of the records.)
 abbrev pub met11 : Table → ℕ → Bool
 met11 T line = leb line (length (formula T))
 
@@ -42,27 +42,27 @@ abbrev pub builtFrom : Built → HandedBack
 builtFrom (BuildRefused n) = turnedDown n
 builtFrom (Nodes n) = taken (n ∷ [])
 
-abbrev pub building : (file tree : List ℕ) → HandedBack
+abbrev pub building : (file : List ℕ) (tree : List Node) → HandedBack
 building file tree = asked (enoughTree tree) file (λ T. []) turnedDown (λ T. taken (nodes (rootPlace T) ∷ []))
 
-abbrev pub treeAfter : (file tree : List ℕ) → List ℕ
+abbrev pub treeAfter : (file : List ℕ) (tree : List Node) → List Node
 treeAfter file tree =
-    asked (enoughTree tree) file (λ T. []) (λ n. tree) (λ T. treeWords (records T) ++ drop (length (treeWords (records T))) tree)
+    asked (enoughTree tree) file (λ T. []) (λ n. tree) (λ T. treeOf T ++ drop (length (treeOf T)) tree)
 
 -- Writing text: 1, 2 to 9, 10, 11; "it returns the bytes used and the next line. Later bytes of the buffer keep their contents"
 abbrev pub textFrom : Text → HandedBack
 textFrom (TextRefused n) = turnedDown n
 textFrom (Written n j) = taken (n ∷ j ∷ [])
 
-abbrev pub questionsWriting : (tree : List ℕ) (line : ℕ) → Table → List (ℕ × Bool)
+abbrev pub questionsWriting : (tree : List Node) (line : ℕ) → Table → List (ℕ × Bool)
 questionsWriting tree line T = (10, met10 T tree) ∷ (11, met11 T line) ∷ []
 
-abbrev pub writing : (file tree : List ℕ) (line : ℕ) (text : List ℕ) → HandedBack
+abbrev pub writing : (file : List ℕ) (tree : List Node) (line : ℕ) (text : List ℕ) → HandedBack
 writing file tree line text =
     asked (enoughTree tree && enoughText text) file (questionsWriting tree line) turnedDown
     (λ T. taken (bytesUsed T line (length text) ∷ nextLine T line (length text) ∷ []))
 
-abbrev pub textAfter : (file tree : List ℕ) (line : ℕ) (text : List ℕ) → List ℕ
+abbrev pub textAfter : (file : List ℕ) (tree : List Node) (line : ℕ) (text : List ℕ) → List ℕ
 textAfter file tree line text =
     asked (enoughTree tree && enoughText text) file (questionsWriting tree line) (λ n. text)
     (λ T. written T line (length text) ++ drop (bytesUsed T line (length text)) text)

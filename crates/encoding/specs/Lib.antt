@@ -3,4 +3,5 @@
 -- what each call answers and leaves
 pub mod Calls
 -- inside: what the calls' parts say
+pub mod Flat
 pub mod Parts

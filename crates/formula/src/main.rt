@@ -32,7 +32,7 @@ fn print_part(text: &[u8], used: usize) {
 fn print_lines(file: &[u8], tree: &[u64], last: usize, text: &mut [u8]) {
     let mut line: usize = 0;
     while line <= last {
-        let written = encoding::write_text(file, tree, line, text);
+        let written = encoding::flat::write_text(file, 1024, tree, line, text);
         match written {
             Text::Refused(question) => {
                 print_refused(question);
@@ -51,7 +51,7 @@ fn print_lines(file: &[u8], tree: &[u64], last: usize, text: &mut [u8]) {
 
 fn print_text(file: &[u8], clauses: usize) {
     let mut tree = [0u64; 5120];
-    let built = encoding::build(file, &mut tree);
+    let built = encoding::flat::build(file, 1024, &mut tree);
     let mut text = text_buffer();
     match built {
         Built::Refused(question) => print_refused(question),

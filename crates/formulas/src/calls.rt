@@ -7,18 +7,18 @@ use encoding::Text;
 // A text call with the first `length` bytes of the buffer.
 fn write_into(file: &[u8], tree: &[u64], line: usize, buffer: &mut [u8], length: usize) -> Text {
     let n = cases::bytes_within(length, buffer);
-    encoding::write_text(file, tree, line, &mut buffer[..n])
+    encoding::flat::write_text(file, 1024, tree, line, &mut buffer[..n])
 }
 
 // A text call with the first `length` words of the tree.
 fn write_with(file: &[u8], tree: &[u64], length: usize, text: &mut [u8]) -> Text {
     let n = cases::words_within(length, tree);
-    encoding::write_text(file, &tree[..n], 0, text)
+    encoding::flat::write_text(file, 1024, &tree[..n], 0, text)
 }
 
 fn build_into(file: &[u8], tree: &mut [u64], length: usize) -> Built {
     let n = cases::words_within(length, tree);
-    encoding::build(file, &mut tree[..n])
+    encoding::flat::build(file, 1024, &mut tree[..n])
 }
 
 fn add_one(tree: &mut [u64], place: usize) {
@@ -35,7 +35,7 @@ pub fn check(file: &[u8]) {
 // build NAME: the records, and the words behind them as they were.
 pub fn build(file: &[u8]) {
     let mut tree = [9u64; 5120];
-    print::built(encoding::build(file, &mut tree));
+    print::built(encoding::flat::build(file, 1024, &mut tree));
     print::number(cases::checksum_words(cases::checksum_start(), &tree));
 }
 
@@ -43,8 +43,8 @@ pub fn build(file: &[u8]) {
 pub fn text(file: &[u8]) {
     let mut tree = [0u64; 5120];
     let mut buffer = io::large_buffer();
-    encoding::build(file, &mut tree);
-    let outcome = encoding::write_text(file, &tree, 0, &mut buffer);
+    encoding::flat::build(file, 1024, &mut tree);
+    let outcome = encoding::flat::write_text(file, 1024, &tree, 0, &mut buffer);
     print::line_end();
     match outcome {
         Text::Refused(question) => print::refused(question),
@@ -56,7 +56,7 @@ pub fn text(file: &[u8]) {
 pub fn call(file: &[u8], line: usize, length: usize) {
     let mut tree = [0u64; 5120];
     let mut buffer = [7u8; 65536];
-    encoding::build(file, &mut tree);
+    encoding::flat::build(file, 1024, &mut tree);
     print::written(write_into(file, &tree, line, &mut buffer, length));
     print::number(cases::checksum_bytes(cases::checksum_start(), &buffer, length));
 }
@@ -65,9 +65,9 @@ pub fn call(file: &[u8], line: usize, length: usize) {
 pub fn tree(file: &[u8], place: usize, line: usize) {
     let mut tree = [0u64; 5120];
     let mut buffer = [7u8; 1024];
-    encoding::build(file, &mut tree);
+    encoding::flat::build(file, 1024, &mut tree);
     add_one(&mut tree, place);
-    print::written(encoding::write_text(file, &tree, line, &mut buffer));
+    print::written(encoding::flat::write_text(file, 1024, &tree, line, &mut buffer));
     print::number(cases::checksum_bytes(cases::checksum_start(), &buffer, 1024));
 }
 

@@ -36,7 +36,7 @@ fn lines(file: &[u8], tree: &[u64], last: usize, text: &mut [u8]) -> Sum {
     let mut s = nothing();
     let mut line: usize = 0;
     while line <= last {
-        let outcome = encoding::write_text(file, tree, line, text);
+        let outcome = encoding::flat::write_text(file, 1024, tree, line, text);
         match outcome {
             Text::Refused(_) => {
                 return s;
@@ -62,7 +62,7 @@ fn print_sum(s: Sum) {
 
 fn print_lines(file: &[u8], last: usize, text: &mut [u8]) {
     let mut tree = [0u64; 5120];
-    encoding::build(file, &mut tree);
+    encoding::flat::build(file, 1024, &mut tree);
     print_sum(lines(file, &tree, last, text));
 }
 

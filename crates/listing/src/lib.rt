@@ -92,11 +92,11 @@ fn task_at(ws: &[u64], ix: &[u64], n: usize, x: usize) -> usize
 }
 
 // The row of step s at node n: none at an inner node, which hands the step down.
-fn put_step_row<'a, 'b>(
+fn put_step_row<'a, 'b, 'c>(
     t: Table,
     file: &'a [u8],
-    ws: &'a [u64],
-    ix: &'a [u64],
+    ws: &'c [u64],
+    ix: &'c [u64],
     out: &'b mut [u8],
     n: usize,
     s: usize,
@@ -117,13 +117,13 @@ fn put_step_row<'a, 'b>(
 }
 
 // The row of job j at node n, with the first method whose variable is true there; none where no method's is.
-fn put_job_row<'a, 'b>(
+fn put_job_row<'a, 'b, 'c, 'd, 'e>(
     t: Table,
     file: &'a [u8],
-    ws: &'a [u64],
-    ix: &'a [u64],
-    tree: &'a [u64],
-    values: &'a [u8],
+    ws: &'c [u64],
+    ix: &'c [u64],
+    tree: &'d [u64],
+    values: &'e [u8],
     out: &'b mut [u8],
     n: usize,
     j: usize,
@@ -147,13 +147,13 @@ fn put_job_row<'a, 'b>(
 }
 
 // The row of node n.
-fn put_node<'a, 'b>(
+fn put_node<'a, 'b, 'c, 'd, 'e>(
     t: Table,
     file: &'a [u8],
-    ws: &'a [u64],
-    ix: &'a [u64],
-    tree: &'a [u64],
-    values: &'a [u8],
+    ws: &'c [u64],
+    ix: &'c [u64],
+    tree: &'d [u64],
+    values: &'e [u8],
     out: &'b mut [u8],
     n: usize,
     p: Reached,
@@ -174,13 +174,13 @@ fn put_node<'a, 'b>(
 }
 
 // Writes the listing's lines for these values, node by node; the end comes back.
-pub fn write<'a, 'b>(
+pub fn write<'a, 'b, 'c, 'd, 'e>(
     t: Table,
     file: &'a [u8],
-    ws: &'a [u64],
-    ix: &'a [u64],
-    tree: &'a [u64],
-    values: &'a [u8],
+    ws: &'c [u64],
+    ix: &'c [u64],
+    tree: &'d [u64],
+    values: &'e [u8],
     out: &'b mut [u8],
 ) -> usize
     requires { ⌜ Listable t (now file) (tableIn (now ws)) (now ix) (now tree) (now values) × (24576 ≤ length (now out)) ⌝ }

@@ -38,7 +38,7 @@ fn is_true(values: &[u8], code: u64) -> bool
 }
 
 // Is one of the clause's literals true?
-fn has_true<'a>(values: &'a [u8], lits: &'a [u64]) -> bool
+fn has_true<'a, 'v>(values: &'v [u8], lits: &'a [u64]) -> bool
     ensures { λ r. ⌜ r ≡ clauseTrue (value (truthsIn (now (values .entry)))) (clauseIn (now (lits .entry))) ⌝ }
 {
     let mut i: usize = 0;
@@ -52,10 +52,10 @@ fn has_true<'a>(values: &'a [u8], lits: &'a [u64]) -> bool
 }
 
 // Is the clause at c satisfied? Its literals go through `lits`, whose contents afterwards are left free.
-fn is_satisfied<'a, 'b>(
+fn is_satisfied<'a, 'v, 'b>(
     ws: &'a [u64],
     ix: &'a [u64],
-    values: &'a [u8],
+    values: &'v [u8],
     lits: &'b mut [u64],
     c: Cursor,
 ) -> bool
@@ -67,7 +67,7 @@ fn is_satisfied<'a, 'b>(
 }
 
 // Is every clause? Row by row.
-pub fn is_model<'a>(ws: &'a [u64], ix: &'a [u64], values: &'a [u8]) -> bool
+pub fn is_model<'a, 'v>(ws: &'a [u64], ix: &'a [u64], values: &'v [u8]) -> bool
     requires { ⌜ Indexed (tableIn (now ws)) (now ix) ⌝ }
     ensures { λ r. ⌜ r ≡ satisfies (value (truthsIn (now (values .entry)))) (formula (tableIn (now (ws .entry)))) ⌝ }
 {

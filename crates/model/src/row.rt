@@ -33,7 +33,7 @@ fn has_on(values: &[u8], v: usize, k: usize) -> bool
 }
 
 // Is one of node n's task variables true?
-fn has_task<'a>(ws: &'a [u64], ix: &'a [u64], values: &'a [u8], n: usize) -> bool
+fn has_task<'a, 'v>(ws: &'a [u64], ix: &'a [u64], values: &'v [u8], n: usize) -> bool
     requires { ⌜ InNode (tableIn (now ws)) (now ix) n ⌝ }
     ensures { λ r. ⌜ r ≡ any (value (truthsIn (now (values .entry)))) (from ((node (tableIn (now (ws .entry))) n) .first) (tasksN (node (tableIn (now (ws .entry))) n))) ⌝ }
 {
@@ -41,7 +41,7 @@ fn has_task<'a>(ws: &'a [u64], ix: &'a [u64], values: &'a [u8], n: usize) -> boo
 }
 
 // (g) of one child: has the node a true task, or the child none?
-fn up_row_holds<'a>(ws: &'a [u64], ix: &'a [u64], values: &'a [u8], c: Cursor) -> bool
+fn up_row_holds<'a, 'v>(ws: &'a [u64], ix: &'a [u64], values: &'v [u8], c: Cursor) -> bool
     requires { ⌜ Indexed (tableIn (now ws)) (now ix) × Holds (tableIn (now ws)) c × (c .rule ≡ 1) × (c .group ≡ 6) ⌝ }
     ensures { λ r. ⌜ (r ≡ true → RowTrue (tableIn (now (ws .entry))) (value (truthsIn (now (values .entry)))) c) ⌝ }
 {
@@ -52,7 +52,7 @@ fn up_row_holds<'a>(ws: &'a [u64], ix: &'a [u64], values: &'a [u8], c: Cursor) -
 }
 
 // Rule 2: all clauses of a row of (a), (b), (e) and (f) begin with the same variable, negated.
-fn node_row_holds<'a>(ws: &'a [u64], ix: &'a [u64], values: &'a [u8], c: Cursor) -> bool
+fn node_row_holds<'a, 'v>(ws: &'a [u64], ix: &'a [u64], values: &'v [u8], c: Cursor) -> bool
     requires { ⌜ Indexed (tableIn (now ws)) (now ix) × Holds (tableIn (now ws)) c × (c .rule ≡ 1) ⌝ }
     ensures { λ r. ⌜ (r ≡ true → RowTrue (tableIn (now (ws .entry))) (value (truthsIn (now (values .entry)))) c) ⌝ }
 {
@@ -66,7 +66,7 @@ fn node_row_holds<'a>(ws: &'a [u64], ix: &'a [u64], values: &'a [u8], c: Cursor)
 }
 
 // Rule 4: so do the effects of a step. A fact that is the same before and after the slot neither falls nor rises there.
-fn slot_row_holds<'a>(ws: &'a [u64], ix: &'a [u64], values: &'a [u8], c: Cursor) -> bool
+fn slot_row_holds<'a, 'v>(ws: &'a [u64], ix: &'a [u64], values: &'v [u8], c: Cursor) -> bool
     requires { ⌜ Indexed (tableIn (now ws)) (now ix) × Holds (tableIn (now ws)) c × (c .rule ≡ 3) ⌝ }
     ensures { λ r. ⌜ (r ≡ true → RowTrue (tableIn (now (ws .entry))) (value (truthsIn (now (values .entry)))) c) ⌝ }
 {
@@ -79,7 +79,7 @@ fn slot_row_holds<'a>(ws: &'a [u64], ix: &'a [u64], values: &'a [u8], c: Cursor)
 }
 
 // Is every clause of the row of c satisfied? A sufficient test only: `false` says nothing of the row.
-fn row_holds<'a>(ws: &'a [u64], ix: &'a [u64], values: &'a [u8], c: Cursor) -> bool
+fn row_holds<'a, 'v>(ws: &'a [u64], ix: &'a [u64], values: &'v [u8], c: Cursor) -> bool
     requires { ⌜ Indexed (tableIn (now ws)) (now ix) × Holds (tableIn (now ws)) c ⌝ }
     ensures { λ r. ⌜ (r ≡ true → RowTrue (tableIn (now (ws .entry))) (value (truthsIn (now (values .entry)))) c) ⌝ }
 {
@@ -93,10 +93,10 @@ fn row_holds<'a>(ws: &'a [u64], ix: &'a [u64], values: &'a [u8], c: Cursor) -> b
 
 // Is every clause of the row of c, from c on? A row that is seen to be satisfied is not gone through. The contents of `lits` afterwards are
 // left free.
-pub fn is_row_satisfied<'a, 'b>(
+pub fn is_row_satisfied<'a, 'v, 'b>(
     ws: &'a [u64],
     ix: &'a [u64],
-    values: &'a [u8],
+    values: &'v [u8],
     lits: &'b mut [u64],
     c: Cursor,
 ) -> bool

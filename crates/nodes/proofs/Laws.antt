@@ -13,7 +13,7 @@ use Rattle.nodes.specs.declared.Node.{Node}
 use Rattle.nodes.specs.Nodes.{blank, nodeWords, wordsOf, nodeAt, laid, gathered}
 
 -- Laid -------------------------------------------------------------------------------------------------------------------------------
-length-from : (k n : ℕ) → length (from k n) ≡ n
+pub length-from : (k n : ℕ) → length (from k n) ≡ n
 length-from k zero = refl
 length-from k (suc n) = omega (arith, length-from (suc k) n)
 

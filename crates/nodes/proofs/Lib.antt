@@ -1,3 +1,5 @@
 -- Laws, then what the walks share.
 pub mod Laws
+pub mod Words
+pub mod Same
 pub mod Walk

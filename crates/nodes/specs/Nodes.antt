@@ -1,8 +1,10 @@
 -- The lent tree records as node structs, and as words, five a record.
 -- Assumes nothing.
+use mathlib.Core.Bool.{cond}
 use mathlib.Core.List.{List, [], _∷_, map, _++_}
 use Prim.Native.Nat.{ℕ, _+_, _*_}
-use lib.ListN.{getD, take, drop}
+use lib.Dec.{ltb}
+use lib.ListN.{length, getD, take, drop}
 use Rattle.lists.specs.List.{concatMap, upTo}
 use Rattle.nodes.specs.declared.Node.{Node}
 
@@ -25,6 +27,17 @@ nodeAt fs i = record { depth = getD fs (i * 5) 0; parent = getD fs (i * 5 + 1) 0
 unfoldable pub laid : List ℕ → List Node → ℕ → List Node
 laid fs ns n = map (nodeAt fs) (upTo n) ++ drop n ns
 
+-- how many of the n records lent a call gathers: as many as it wants, or none where they are too few
+unfoldable pub heldOf : ℕ → ℕ
+heldOf n = cond (ltb n 1024) 0 1024
+
 -- the words of the first n records, and the others as they were
 unfoldable pub gathered : List Node → List ℕ → ℕ → List ℕ
 gathered ns fs n = wordsOf (take n ns) ++ drop (n * 5) fs
+
+-- the 1,024 records in words, and the first k of them; none where the words are too few
+unfoldable pub nodesOf : List ℕ → List Node
+nodesOf fs = map (nodeAt fs) (upTo 1024)
+
+unfoldable pub lentIn : ℕ → List ℕ → List Node
+lentIn k fs = cond (ltb (length fs) 5120) [] (take k (nodesOf fs))

@@ -3,7 +3,7 @@
 ghost use mathlib.Core.Path.{_≡_};
 ghost use Prim.Native.Nat.{_+_, _*_, _≤_, _<_};
 ghost use lib.ListN.{length, set, getD};
-ghost use Rattle.nodes.specs.Nodes.{blank, nodeAt, laid, gathered};
+ghost use Rattle.nodes.specs.Nodes.{blank, nodeAt, laid, heldOf, gathered};
 
 // Document 01's record of a node: its depth, its parent's number, its child count, the sets of steps and of jobs it may hold.
 pub struct Node {
@@ -62,6 +62,16 @@ pub fn scatter<'a, 'b>(ns: &'a mut [Node], flat: &'b [u64], n: usize)
         ns[i] = node_at(flat, i);
         i += 1;
     }
+}
+
+// How many of the n records lent a call gathers.
+pub fn held(n: usize) -> usize
+    ensures { λ r. ⌜ r ≡ heldOf n ⌝ }
+{
+    if n < 1024 {
+        return 0;
+    }
+    1024
 }
 
 // The first words are those of the first n records; the others stay.

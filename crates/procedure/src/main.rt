@@ -33,7 +33,7 @@ fn print_part(listing: &[u8], used: usize) {
 
 fn print_listing<'a>(file: &'a [u8], tree: &'a [u64], values: &'a [u8]) {
     let mut listing = [0u8; 24576];
-    let listed = answer::list_procedure(file, tree, values, &mut listing);
+    let listed = answer::flat::list_procedure(file, 1024, tree, values, &mut listing);
     match listed {
         Listed::Refused(question) => print_refused(question),
         Listed::Written(used) => print_part(&listing, used),
@@ -42,7 +42,7 @@ fn print_listing<'a>(file: &'a [u8], tree: &'a [u64], values: &'a [u8]) {
 
 fn print_taken<'a>(file: &'a [u8], tree: &'a [u64], reply: &'a [u8]) {
     let mut values = [0u8; 8191];
-    let taken = answer::take_answer(file, tree, reply, &mut values);
+    let taken = answer::flat::take_answer(file, 1024, tree, reply, &mut values);
     match taken {
         Taken::Refused(question) => print_refused(question),
         Taken::Values(_) => print_listing(file, tree, &values),
@@ -51,7 +51,7 @@ fn print_taken<'a>(file: &'a [u8], tree: &'a [u64], reply: &'a [u8]) {
 
 fn print_procedure<'a>(file: &'a [u8], reply: &'a [u8]) {
     let mut tree = [0u64; 5120];
-    let built = encoding::build(file, &mut tree);
+    let built = encoding::flat::build(file, 1024, &mut tree);
     match built {
         Built::Refused(question) => print_refused(question),
         Built::Nodes(_) => print_taken(file, &tree, reply),

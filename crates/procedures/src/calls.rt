@@ -12,7 +12,7 @@ fn take_into<'a, 'b>(
     length: usize,
 ) -> Taken {
     let n = cases::bytes_within(length, values);
-    answer::take_answer(file, tree, reply, &mut values[..n])
+    answer::flat::take_answer(file, 1024, tree, reply, &mut values[..n])
 }
 
 // A call that takes an answer, lent `length` bytes for the values.
@@ -30,7 +30,7 @@ fn list_into<'a, 'b>(
     length: usize,
 ) -> Listed {
     let n = cases::bytes_within(length, listing);
-    answer::list_procedure(file, tree, values, &mut listing[..n])
+    answer::flat::list_procedure(file, 1024, tree, values, &mut listing[..n])
 }
 
 // A call that lists a procedure, lent `length` bytes for the listing.
@@ -74,8 +74,8 @@ fn put_value(values: &mut [u8], place: usize, value: usize) {
 pub fn plan<'a>(file: &'a [u8], reply: &'a [u8]) {
     let mut tree = [0u64; 5120];
     let mut values = [7u8; 8191];
-    encoding::build(file, &mut tree);
-    let outcome = answer::take_answer(file, &tree, reply, &mut values);
+    encoding::flat::build(file, 1024, &mut tree);
+    let outcome = answer::flat::take_answer(file, 1024, &tree, reply, &mut values);
     print::taken(outcome, &values);
     list(file, &tree, &values, 24576);
 }
@@ -85,8 +85,8 @@ pub fn plan<'a>(file: &'a [u8], reply: &'a [u8]) {
 pub fn room<'a>(file: &'a [u8], reply: &'a [u8], words: usize, bytes: usize, length: usize) {
     let mut tree = [9u64; 5130];
     let mut values = [7u8; 8200];
-    encoding::build(file, &mut tree);
-    answer::take_answer(file, &tree, reply, &mut values);
+    encoding::flat::build(file, 1024, &mut tree);
+    answer::flat::take_answer(file, 1024, &tree, reply, &mut values);
     room_of(file, &tree, words, reply, &values, bytes, length);
 }
 
@@ -107,8 +107,8 @@ fn room_of<'a>(
 pub fn tree<'a>(file: &'a [u8], reply: &'a [u8], place: usize) {
     let mut tree = [0u64; 5120];
     let mut values = [7u8; 8191];
-    encoding::build(file, &mut tree);
-    answer::take_answer(file, &tree, reply, &mut values);
+    encoding::flat::build(file, 1024, &mut tree);
+    answer::flat::take_answer(file, 1024, &tree, reply, &mut values);
     add_one(&mut tree, place);
     take_and_list(file, &tree, reply, &values, 8191, 24576);
 }
@@ -117,8 +117,8 @@ pub fn tree<'a>(file: &'a [u8], reply: &'a [u8], place: usize) {
 pub fn value<'a>(file: &'a [u8], reply: &'a [u8], place: usize, value: usize) {
     let mut tree = [0u64; 5120];
     let mut values = [7u8; 8191];
-    encoding::build(file, &mut tree);
-    answer::take_answer(file, &tree, reply, &mut values);
+    encoding::flat::build(file, 1024, &mut tree);
+    answer::flat::take_answer(file, 1024, &tree, reply, &mut values);
     put_value(&mut values, place, value);
     list(file, &tree, &values, 24576);
 }
@@ -127,6 +127,6 @@ pub fn value<'a>(file: &'a [u8], reply: &'a [u8], place: usize, value: usize) {
 pub fn all(file: &[u8], value: usize) {
     let mut tree = [0u64; 5120];
     let values = [(value % 256) as u8; 8191];
-    encoding::build(file, &mut tree);
+    encoding::flat::build(file, 1024, &mut tree);
     list(file, &tree, &values, 24576);
 }

@@ -1,4 +1,6 @@
 -- Laws, by topic.
 pub mod Preparing
+pub mod Acceptance
 pub mod Compared
 pub mod Asked
+pub mod Lent

@@ -11,7 +11,8 @@ use Rattle.planning.specs.Place.{rootPlace, nodes}
 use Rattle.planning.specs.Variable.{variables}
 use Rattle.planning.specs.Accepted.{Accepted}
 use Rattle.table.specs.Layout.{tableFrom, namePartsFrom}
-use Rattle.tree.specs.Words.{met10}
+use Rattle.nodes.specs.Tree.{met10}
+use Rattle.nodes.specs.declared.Node.{Node}
 use Rattle.shape.specs.Shape.{Indexed}
 use Rattle.questions.specs.Questions.{met8, met9, ifMet, accepting, namesOf}
 use Rattle.questions.specs.declared.Measure.{Measure}
@@ -33,7 +34,7 @@ pub record IsPrepared (file : List ℕ) (T : Table) (r : Prepared) : Type 0 wher
   pub names : r .question ≡ 0 → namePartsFrom (r .table) ≡ namesOf file
 
 -- question 10 was put; where it is met, the first r words of ix are the table's index
-pub record Placed (T : Table) (tree ix : List ℕ) (r : ℕ) : Type 0 where
+pub record Placed (T : Table) (tree : List Node) (ix : List ℕ) (r : ℕ) : Type 0 where
   pub unmet : r ≡ 0 → met10 T tree ≡ false
   pub met : (r ≡ 0 → ⊥) → met10 T tree ≡ true
   pub index : (r ≡ 0 → ⊥) → Indexed T (take r ix)

@@ -11,15 +11,11 @@ use Rattle.planning.specs.Place.{rootPlace, nodes}
 use Rattle.planning.specs.Variable.{variables}
 use Rattle.table.specs.Reading.{NameParts, Reading, refused, passed, reading}
 
--- 1. "Are lent buffers long enough: 1,024 records for the tree ..?" A record has five words
-abbrev pub enoughTree : List ℕ → Bool
-enoughTree tree = leb 5120 (length tree)
-
 -- 8. "Has the tree at most 1,024 nodes?"
 abbrev pub met8 : Table → Bool
 met8 T = leb (nodes (rootPlace T)) 1024
 
--- 9. "Are there at most 8,191 variables?" (10 stands in crate `tree`, beside the form of the records.)
+-- 9. "Are there at most 8,191 variables?" (1 of the tree and 10 stand in crate `nodes`, beside the form of the records.)
 abbrev pub met9 : Table → Bool
 met9 T = leb (variables T) 8191
 

@@ -1,6 +1,6 @@
 use borrow.Author.Needs.{needs}
-use Rattle.answer.proofs.are_binary.Statement.{statement}
-use Rattle.answer.proofs.are_binary.Tie as tie
+use Rattle.answer.proofs.flat.are_binary.Statement.{statement}
+use Rattle.answer.proofs.flat.are_binary.Tie as tie
 use mathlib.Core.Path.{_≡_}
 use Prim.Native.Nat.{_-_}
 use lib.Dec.{leb}
