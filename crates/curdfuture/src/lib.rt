@@ -1,18 +1,18 @@
 // The five calls for other languages, as C functions in one static library. An enum does not cross that border: each call returns the
 // number of the question that is not met, or 0 where all are, and lays its values into numbers that the caller lends; on a refusal these
-// too stay as they were. A slice is passed as a pointer and a length.
+// too stay as they were. A slice is passed as a pointer and a length, a record of the tree as five 64-bit words in the order of its fields. The
+// functions over records are straight lines, proved by hand: the call, and a covered function that tells its answer as numbers.
 ghost use mathlib.Core.Path.{_≡_};
 ghost use mathlib.Core.List.{[], _∷_};
-ghost use Rattle.encoding.specs.Calls.{checking, building, writing, textAfter};
-ghost use Rattle.encoding.specs.Flat.{wordsAfter};
-ghost use Rattle.answer.specs.Calls.{taking, valuesAfter, showing, listingAfter};
-ghost use Rattle.nodes.specs.Nodes.{lentIn};
+ghost use Rattle.encoding.specs.Calls.{checking, builtFrom, building, treeAfter, textFrom, writing, textAfter};
+ghost use Rattle.answer.specs.Calls.{takenFrom, taking, valuesAfter, listedFrom, showing, listingAfter};
 ghost use Rattle.curdfuture.specs.Numbers.{Crossed};
 use answer::Listed;
 use answer::Taken;
 use encoding::Built;
 use encoding::Checked;
 use encoding::Text;
+use nodes::Node;
 
 // Checks a table: how many nodes, variables and clauses there are.
 #[no_mangle]
@@ -36,16 +36,10 @@ pub extern "C" fn curdfuture_check<'a, 'b, 'c, 'd>(
     }
 }
 
-// Builds the tree, five words a record: how many nodes there are.
-#[no_mangle]
-pub extern "C" fn curdfuture_build<'a, 'b, 'c>(
-    file: &'a [u8],
-    tree: &'b mut [u64],
-    nodes: &'c mut usize,
-) -> usize
-    ensures { λ r. ⌜ Crossed (building (now (file .entry)) (lentIn 1024 (now (tree .entry)))) (now (nodes .entry) ∷ []) (now (nodes .exit) ∷ []) r × (now (tree .exit) ≡ wordsAfter (now (file .entry)) 1024 (now (tree .entry))) ⌝ }
+// The answer of `build` as numbers.
+fn tell_built(built: Built, nodes: &mut usize) -> usize
+    ensures { λ r. ⌜ Crossed (builtFrom built) (now (nodes .entry) ∷ []) (now (nodes .exit) ∷ []) r ⌝ }
 {
-    let built = encoding::flat::build(file, 1024, tree);
     match built {
         Built::Refused(question) => question,
         Built::Nodes(k) => {
@@ -55,20 +49,24 @@ pub extern "C" fn curdfuture_build<'a, 'b, 'c>(
     }
 }
 
-// Writes text from a line on: the bytes used and the next line.
+// Builds the tree, one record a node: how many nodes there are.
 #[no_mangle]
-pub extern "C" fn curdfuture_write_text<'a, 'b, 'c, 'd>(
+pub extern "C" fn curdfuture_build<'a, 'b, 'c>(
     file: &'a [u8],
-    tree: &'a [u64],
-    line: usize,
-    text: &'b mut [u8],
-    used: &'c mut usize,
-    next: &'d mut usize,
+    tree: &'b mut [Node],
+    nodes: &'c mut usize,
 ) -> usize
-    ensures { λ r. ⌜ Crossed (writing (now (file .entry)) (lentIn 1024 (now (tree .entry))) line (now (text .entry))) (now (used .entry) ∷ now (next .entry) ∷ []) (now (used .exit) ∷ now (next .exit) ∷ []) r × (now (text .exit) ≡ textAfter (now (file .entry)) (lentIn 1024 (now (tree .entry))) line (now (text .entry))) ⌝ }
+    ensures { λ r. ⌜ Crossed (building (now (file .entry)) (now (tree .entry))) (now (nodes .entry) ∷ []) (now (nodes .exit) ∷ []) r × (now (tree .exit) ≡ treeAfter (now (file .entry)) (now (tree .entry))) ⌝ }
 {
-    let text_written = encoding::flat::write_text(file, 1024, tree, line, text);
-    match text_written {
+    let built = encoding::build(file, tree);
+    tell_built(built, nodes)
+}
+
+// The answer of `write_text` as numbers.
+fn tell_text<'a, 'b>(written: Text, used: &'a mut usize, next: &'b mut usize) -> usize
+    ensures { λ r. ⌜ Crossed (textFrom written) (now (used .entry) ∷ now (next .entry) ∷ []) (now (used .exit) ∷ now (next .exit) ∷ []) r ⌝ }
+{
+    match written {
         Text::Refused(question) => question,
         Text::Written(n, j) => {
             *used = n;
@@ -78,18 +76,26 @@ pub extern "C" fn curdfuture_write_text<'a, 'b, 'c, 'd>(
     }
 }
 
-// Takes an answer: how many values there are.
+// Writes text from a line on: the bytes used and the next line.
 #[no_mangle]
-pub extern "C" fn curdfuture_take_answer<'a, 'b, 'c>(
+pub extern "C" fn curdfuture_write_text<'a, 'b, 'c, 'd, 'e>(
     file: &'a [u8],
-    tree: &'a [u64],
-    reply: &'a [u8],
-    values: &'b mut [u8],
-    count: &'c mut usize,
+    tree: &'b [Node],
+    line: usize,
+    text: &'c mut [u8],
+    used: &'d mut usize,
+    next: &'e mut usize,
 ) -> usize
-    ensures { λ r. ⌜ Crossed (taking (now (file .entry)) (lentIn 1024 (now (tree .entry))) (now (reply .entry)) (now (values .entry))) (now (count .entry) ∷ []) (now (count .exit) ∷ []) r × (now (values .exit) ≡ valuesAfter (now (file .entry)) (lentIn 1024 (now (tree .entry))) (now (reply .entry)) (now (values .entry))) ⌝ }
+    ensures { λ r. ⌜ Crossed (writing (now (file .entry)) (now (tree .entry)) line (now (text .entry))) (now (used .entry) ∷ now (next .entry) ∷ []) (now (used .exit) ∷ now (next .exit) ∷ []) r × (now (text .exit) ≡ textAfter (now (file .entry)) (now (tree .entry)) line (now (text .entry))) ⌝ }
 {
-    let taken = answer::flat::take_answer(file, 1024, tree, reply, values);
+    let written = encoding::write_text(file, tree, line, text);
+    tell_text(written, used, next)
+}
+
+// The answer of `take_answer` as numbers.
+fn tell_taken(taken: Taken, count: &mut usize) -> usize
+    ensures { λ r. ⌜ Crossed (takenFrom taken) (now (count .entry) ∷ []) (now (count .exit) ∷ []) r ⌝ }
+{
     match taken {
         Taken::Refused(question) => question,
         Taken::Values(n) => {
@@ -99,18 +105,25 @@ pub extern "C" fn curdfuture_take_answer<'a, 'b, 'c>(
     }
 }
 
-// Lists a procedure: the bytes used.
+// Takes an answer: how many values there are.
 #[no_mangle]
-pub extern "C" fn curdfuture_list_procedure<'a, 'b, 'c>(
+pub extern "C" fn curdfuture_take_answer<'a, 'b, 'c, 'd, 'e>(
     file: &'a [u8],
-    tree: &'a [u64],
-    values: &'a [u8],
-    listing: &'b mut [u8],
-    used: &'c mut usize,
+    tree: &'b [Node],
+    reply: &'c [u8],
+    values: &'d mut [u8],
+    count: &'e mut usize,
 ) -> usize
-    ensures { λ r. ⌜ Crossed (showing (now (file .entry)) (lentIn 1024 (now (tree .entry))) (now (values .entry)) (now (listing .entry))) (now (used .entry) ∷ []) (now (used .exit) ∷ []) r × (now (listing .exit) ≡ listingAfter (now (file .entry)) (lentIn 1024 (now (tree .entry))) (now (values .entry)) (now (listing .entry))) ⌝ }
+    ensures { λ r. ⌜ Crossed (taking (now (file .entry)) (now (tree .entry)) (now (reply .entry)) (now (values .entry))) (now (count .entry) ∷ []) (now (count .exit) ∷ []) r × (now (values .exit) ≡ valuesAfter (now (file .entry)) (now (tree .entry)) (now (reply .entry)) (now (values .entry))) ⌝ }
 {
-    let listed = answer::flat::list_procedure(file, 1024, tree, values, listing);
+    let taken = answer::take_answer(file, tree, reply, values);
+    tell_taken(taken, count)
+}
+
+// The answer of `list_procedure` as numbers.
+fn tell_listed(listed: Listed, used: &mut usize) -> usize
+    ensures { λ r. ⌜ Crossed (listedFrom listed) (now (used .entry) ∷ []) (now (used .exit) ∷ []) r ⌝ }
+{
     match listed {
         Listed::Refused(question) => question,
         Listed::Written(k) => {
@@ -118,4 +131,19 @@ pub extern "C" fn curdfuture_list_procedure<'a, 'b, 'c>(
             0
         }
     }
+}
+
+// Lists a procedure: the bytes used.
+#[no_mangle]
+pub extern "C" fn curdfuture_list_procedure<'a, 'b, 'c, 'd, 'e>(
+    file: &'a [u8],
+    tree: &'b [Node],
+    values: &'c [u8],
+    listing: &'d mut [u8],
+    used: &'e mut usize,
+) -> usize
+    ensures { λ r. ⌜ Crossed (showing (now (file .entry)) (now (tree .entry)) (now (values .entry)) (now (listing .entry))) (now (used .entry) ∷ []) (now (used .exit) ∷ []) r × (now (listing .exit) ≡ listingAfter (now (file .entry)) (now (tree .entry)) (now (values .entry)) (now (listing .entry))) ⌝ }
+{
+    let listed = answer::list_procedure(file, tree, values, listing);
+    tell_listed(listed, used)
 }

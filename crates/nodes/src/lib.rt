@@ -6,6 +6,8 @@ ghost use lib.ListN.{length, set, getD};
 ghost use Rattle.nodes.specs.Nodes.{blank, nodeAt, laid, heldOf, gathered};
 
 // Document 01's record of a node: its depth, its parent's number, its child count, the sets of steps and of jobs it may hold.
+// Other languages lend it too, so its fields lie in this order.
+#[repr(C)]
 pub struct Node {
     pub depth: u64,
     pub parent: u64,
