@@ -14,3 +14,5 @@ pub mod Outcomes
 pub mod Lent
 -- demand 3
 pub mod Demand3
+-- the walk that the calls over records share
+pub mod Records

@@ -10,12 +10,21 @@ use prog.Wp.{Heap, Env}
 use ghost.Atoms.{Atoms}
 use types.Kit.{Given, Item}
 use types.Run.{Opd}
+use denote.RattleType.{RattleType}
 
 -- the type of local n
 abbrev pub typeOf : ℕ → List Local → Ty
 typeOf n [] = tyUnit
 typeOf zero (local τ h ∷ ls) = τ
 typeOf (suc n) (l ∷ ls) = typeOf n ls
+
+-- the one machine type of a type
+abbrev first : List Ty → Ty
+first [] = tyUnit
+first (τ ∷ τs) = τ
+
+abbrev pub typeIn : RattleType → Ty
+typeIn X = first (X .mir)
 
 -- what a body begins with, and what comes after that
 abbrev pub head : Body → Body
