@@ -21,8 +21,7 @@ pub enum Listed {
 pub fn take_answer(file: &[u8], tree: &[Node], answer: &[u8], values: &mut [u8]) -> Taken
     ensures { λ r. ⌜ (takenFrom r ≡ taking (now (file .entry)) (now (tree .entry)) (now (answer .entry)) (now (values .entry))) × (now (values .exit) ≡ valuesAfter (now (file .entry)) (now (tree .entry)) (now (answer .entry)) (now (values .entry))) ⌝ }
 {
-    let mut words = [0u64; 5120];
-    nodes::gather(tree, &mut words, nodes::held(tree.len()));
+    let words = nodes::words_of(tree);
     flat::take_answer(file, tree.len(), &words, answer, values)
 }
 
@@ -30,7 +29,6 @@ pub fn take_answer(file: &[u8], tree: &[Node], answer: &[u8], values: &mut [u8])
 pub fn list_procedure(file: &[u8], tree: &[Node], values: &[u8], text: &mut [u8]) -> Listed
     ensures { λ r. ⌜ (listedFrom r ≡ showing (now (file .entry)) (now (tree .entry)) (now (values .entry)) (now (text .entry))) × (now (text .exit) ≡ listingAfter (now (file .entry)) (now (tree .entry)) (now (values .entry)) (now (text .entry))) ⌝ }
 {
-    let mut words = [0u64; 5120];
-    nodes::gather(tree, &mut words, nodes::held(tree.len()));
+    let words = nodes::words_of(tree);
     flat::list_procedure(file, tree.len(), &words, values, text)
 }

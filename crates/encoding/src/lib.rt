@@ -75,7 +75,6 @@ pub fn build(file: &[u8], tree: &mut [Node]) -> Built
 pub fn write_text(file: &[u8], tree: &[Node], line: usize, text: &mut [u8]) -> Text
     ensures { λ r. ⌜ (textFrom r ≡ writing (now (file .entry)) (now (tree .entry)) line (now (text .entry))) × (now (text .exit) ≡ textAfter (now (file .entry)) (now (tree .entry)) line (now (text .entry))) ⌝ }
 {
-    let mut words = [0u64; 5120];
-    nodes::gather(tree, &mut words, nodes::held(tree.len()));
+    let words = nodes::words_of(tree);
     flat::write_text(file, tree.len(), &words, line, text)
 }

@@ -4,7 +4,7 @@ use mathlib.Core.Bool.{cond}
 use mathlib.Core.List.{List, [], _∷_, map, _++_}
 use Prim.Native.Nat.{ℕ, _+_, _*_}
 use lib.Dec.{ltb}
-use lib.ListN.{length, getD, take, drop}
+use lib.ListN.{length, getD, take, drop, replicate}
 use Rattle.lists.specs.List.{concatMap, upTo}
 use Rattle.nodes.specs.declared.Node.{Node}
 
@@ -34,6 +34,10 @@ heldOf n = cond (ltb n 1024) 0 1024
 -- the words of the first n records, and the others as they were
 unfoldable pub gathered : List Node → List ℕ → ℕ → List ℕ
 gathered ns fs n = wordsOf (take n ns) ++ drop (n * 5) fs
+
+-- the words that a call makes of the records lent
+abbrev pub lentWords : List Node → List ℕ
+lentWords ns = gathered ns (replicate 5120 0) (heldOf (length ns))
 
 -- the 1,024 records in words, and the first k of them; none where the words are too few
 unfoldable pub nodesOf : List ℕ → List Node

@@ -3,7 +3,7 @@
 ghost use mathlib.Core.Path.{_≡_};
 ghost use Prim.Native.Nat.{_+_, _*_, _≤_, _<_};
 ghost use lib.ListN.{length, set, getD};
-ghost use Rattle.nodes.specs.Nodes.{blank, nodeAt, laid, heldOf, gathered};
+ghost use Rattle.nodes.specs.Nodes.{blank, nodeAt, laid, heldOf, gathered, lentWords};
 
 // Document 01's record of a node: its depth, its parent's number, its child count, the sets of steps and of jobs it may hold.
 // Other languages lend it too, so its fields lie in this order.
@@ -67,7 +67,7 @@ pub fn scatter<'a, 'b>(ns: &'a mut [Node], flat: &'b [u64], n: usize)
 }
 
 // How many of the n records lent a call gathers.
-pub fn held(n: usize) -> usize
+fn held(n: usize) -> usize
     ensures { λ r. ⌜ r ≡ heldOf n ⌝ }
 {
     if n < 1024 {
@@ -77,7 +77,7 @@ pub fn held(n: usize) -> usize
 }
 
 // The first words are those of the first n records; the others stay.
-pub fn gather<'a, 'b>(ns: &'a [Node], flat: &'b mut [u64], n: usize)
+fn gather<'a, 'b>(ns: &'a [Node], flat: &'b mut [u64], n: usize)
     requires { ⌜ (n < 65536) × (n ≤ length (now ns)) × (n * 5 ≤ length (now flat)) ⌝ }
     ensures { λ r. ⌜ now (flat .exit) ≡ gathered (now (ns .entry)) (now (flat .entry)) n ⌝ }
 {
@@ -92,4 +92,13 @@ pub fn gather<'a, 'b>(ns: &'a [Node], flat: &'b mut [u64], n: usize)
         flat[a + 4] = r.jobs;
         i += 1;
     }
+}
+
+// The words that a call over records makes of them: those of the first 1,024, or zeros where fewer were lent.
+pub fn words_of(ns: &[Node]) -> [u64; 5120]
+    ensures { λ r. ⌜ r ≡ lentWords (now (ns .entry)) ⌝ }
+{
+    let mut flat = [0u64; 5120];
+    gather(ns, &mut flat, held(ns.len()));
+    flat
 }

@@ -7,14 +7,12 @@ use denote.RattleType.{RattleType}
 use denote.Enum.Laws as EL
 use denote.Triple.Spec.{tripleOf}
 use denote.Triple.Table.{entered, cited}
-use Rattle.nodes.proofs.held.Symbol as held-def
-use Rattle.nodes.proofs.held.Met as held-thm
-use Rattle.nodes.proofs.gather.Symbol as gather-def
-use Rattle.nodes.proofs.gather.Met as gather-thm
+use Rattle.nodes.proofs.words_of.Symbol as words-def
+use Rattle.nodes.proofs.words_of.Met as words-thm
 use Rattle.answer.specs.Calls.{listedFrom, showing, listingAfter}
 use Rattle.answer.proofs.Lent.{values-seen}
 use Rattle.answer.proofs.Records.Shape.{Saying}
-use Rattle.answer.proofs.Records.Walk.{Holds, Gathers, Flat, reads-meet}
+use Rattle.answer.proofs.Records.Walk.{Words, Flat, reads-meet}
 use Rattle.answer.proofs.Listed as E
 use Rattle.answer.proofs.Listed.Laws as E′
 use Rattle.answer.proofs.flat.list_procedure.Symbol as flat-def
@@ -46,6 +44,5 @@ list-procedure-spec 𝓤 H 𝓜 𝓖 𝓡 =
     (λ r y i. EL.lawful E.the-type E′.the-laws 𝓤 H A W tt .typed r _ i .0)
     (λ f ns x y r zs e. (e .0 ∙ values-seen f ns x y .0, e .1 ∙ values-seen f ns x y .1))
     𝓤 H A W mm run (tablesOf 𝓤 H 𝓜 (tables 𝓤 H 𝓜 𝓡 code.env))
-    (cited 𝓤 H (Holds 𝓤 H A mm run) 𝓜 𝓡 code.env held-def.name held-def.routine code.calls-nodes·held (held-thm.met 𝓤 H 𝓜 𝓖 𝓡))
-    (cited 𝓤 H (Gathers 𝓤 H A mm run) 𝓜 𝓡 code.env gather-def.name gather-def.routine code.calls-nodes·gather (gather-thm.met 𝓤 H 𝓜 𝓖 𝓡))
+    (cited 𝓤 H (Words 𝓤 H A mm run) 𝓜 𝓡 code.env words-def.name words-def.routine code.calls-nodes·words-of (words-thm.met 𝓤 H 𝓜 𝓖 𝓡))
     (cited 𝓤 H (Flat Q σ flat-def.name Says 𝓤 H A) 𝓜 𝓡 code.env flat-def.name flat-def.routine code.calls-answer·flat·list-procedure (flat-thm.met 𝓤 H 𝓜 𝓖 𝓡)))
