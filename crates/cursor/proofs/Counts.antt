@@ -1,24 +1,30 @@
 -- Counts by node and part, and the search for a clause.
 -- By the laws of sums and of what is left from a place on.
-use mathlib.Core.Path.{_≡_, refl, sym, ap, _∙_}
-use mathlib.Core.List.{List, [], _∷_}
+use mathlib.Core.Path.{_≡_, refl, sym, ap, ap₂, _∙_}
+use mathlib.Core.Bool.{cond}
+use mathlib.Core.List.{List, []}
 use mathlib.Core.Logic.{inl, inr}
 use Prim.Native.Nat.{ℕ, zero, suc, _+_, _-_, _*_, _≤_, _<_}
 use native.Mathlib.Numerals.{add-one}
-use native.Mathlib.Nat.{mul-suc}
+use native.Mathlib.Nat.{mul-suc, mul-le-mul}
 use native.Mathlib.Omega.{arith}
-use lib.ListN.{length, drop}
+use lib.Dec.{eqb}
+use lib.ListN.{length, drop, getD}
 use lib.Seq.{drop-drop, drop-nil}
+use Rattle.lists.proofs.Bool.{eqb-other}
 use Rattle.planning.specs.Table.{Table}
-use Rattle.places.specs.Nest.{at, left, positions, row, rows, columns, upFrom}
-use Rattle.places.specs.ClausePlace.{Source, shape, groupAt, groupsIn, nodesIn, rowLen}
+use Rattle.places.specs.Nest.{at, left, positions}
+use Rattle.places.specs.Flat.{Node}
+use Rattle.places.specs.ClausePlace.{Source, shape, nodesIn, rowLen, childAt, width, tasksN, namedAt, slotAt, effectFacts}
 use Rattle.places.specs.Cursor.{Seeking}
-use Rattle.places.specs.Total.{sumTo, countAt, clauseCount}
+use Rattle.places.specs.Total.{sumTo, pairCount, widthsTo, bodyCount, passCount, nodeCount, effectCount, slotCount, countAt}
 use Rattle.places.proofs.Next.{seek-start, seek-node}
-use Rattle.places.proofs.Total.{sumTo-same, length-concatMap, count-node}
+use Rattle.places.proofs.Total.{sumTo-same, sumTo-first}
 use Rattle.places.proofs.Walk.{left-clause}
 use Rattle.index.specs.Index.{source}
-use Rattle.cursor.specs.Cursor.{posOf, ofPos, leftIn, In, Moved, NodePassed, columnsCount, SoughtRow, Found}
+use Rattle.shape.specs.Shape.{Indexed, node, InNode, InSlot, InGroup}
+use Rattle.shape.proofs.Groups.{in-row}
+use Rattle.cursor.specs.Cursor.{posOf, ofPos, leftIn, In, Moved, NodePassed, SoughtRow, Found}
 use Rattle.cursor.specs.declared.Cursor.{Cursor}
 use Rattle.cursor.proofs.Moves.{left-at-end, stands-of, start-stands}
 
@@ -43,31 +49,113 @@ pub summing-all : {f : ℕ → ℕ} {b n i k : ℕ} → Summing f b n i k → n 
 summing-all {f} {b} {n} {i} {k} s h = let e : i ≡ n = omega (arith, s .at) in s .is ∙ ap (sumTo f) e
 
 -- The clauses of a node --------------------------------------------------------------------------------------------------------
-up-length : {B : Type 0} (f : ℕ → List B) (n : ℕ) → length (upFrom f 0 n) ≡ sumTo (λ i. length (f i)) n
-up-length f n = let e : n - 0 ≡ n = omega arith in rw e (length-concatMap f n)
+-- pairs of at most 128 variables
+pub pairs-none : {n : ℕ} → n ≡ 0 → (0 ≡ pairCount n) × (_≤_ 0 8128)
+pairs-none e = (ap pairCount (sym e), omega arith)
 
-module _ (S : Source) (r n : ℕ) where
-  ones : (k : ℕ) → sumTo (λ i. 1) k ≡ k
-  ones zero = refl
-  ones (suc k) = omega (arith, ones k)
+pub pairs-most : {n : ℕ} → n ≤ 128 → n * (n - 1) ≤ 128 * 127
+pairs-most {n} h = mul-le-mul {n₁ = n} {m₁ = n - 1} {n₂ = 128} {m₂ = 127} h (omega arith)
 
-  row-length : (g x y : ℕ) → length (row (shape S) r n g x y 0) ≡ rowLen S r n g x y
-  unfolding shape
-  row-length g x y = up-length (λ j. at r n g x y j ∷ []) (rowLen S r n g x y) ∙ ones (rowLen S r n g x y)
+-- a product of two factors that are bounded
+pub product-most : {a b c d : ℕ} → a ≤ c → b ≤ d → a * b ≤ c * d
+product-most {a} {b} {c} {d} h l = mul-le-mul {n₁ = a} {m₁ = b} {n₂ = c} {m₂ = d} h l
 
-  letter-length : (g : ℕ) → length (columns (shape S) r n g 0) ≡ columnsCount S r n g
-  unfolding shape
-  letter-length g =
-      up-length (λ z. rows (shape S) r n g z 0) ((groupAt S r n g) .xs)
-      ∙ sumTo-same _ _ ((groupAt S r n g) .xs) (λ x h.
-      up-length (λ z. row (shape S) r n g x z 0) ((groupAt S r n g) .ys)
-      ∙ sumTo-same _ _ ((groupAt S r n g) .ys) (λ y l. row-length g x y))
+-- (f) has one clause at the first child, and as many as (g) at the others
+module _ (N : Node) where
+  widths-first : (k : ℕ) → widthsTo N (suc k) ≡ width (childAt N 0) + sumTo (λ i. width (childAt N (suc i))) k
+  widths-first k = sumTo-first (λ z. width (childAt N z)) k
 
-  pub node-count : n < nodesIn S r → sumTo (columnsCount S r n) (groupsIn r) ≡ countAt S r n
-  unfolding shape
-  node-count h =
-      sym (up-length (λ z. columns (shape S) r n z 0) (groupsIn r) ∙ sumTo-same _ _ (groupsIn r) (λ g l. letter-length g))
-      ∙ count-node S r n h
+  passes-first : (k : ℕ) → sumTo (λ y. cond (eqb y 0) 1 (width (childAt N y))) (suc k) ≡ 1 + sumTo (λ i. width (childAt N (suc i))) k
+  passes-first k =
+      sumTo-first (λ y. cond (eqb y 0) 1 (width (childAt N y))) k
+      ∙ ap (λ (s : ℕ). 1 + s) (sumTo-same _ _ k (λ i h. rw (eqb-other (suc i) 0 (λ (e : suc i ≡ 0). omega arith))))
+
+  from-widths : (a b s p : ℕ) → a ≡ b + s → p ≡ 1 + s → (a - b + 1 ≡ p) × (b ≤ a)
+  from-widths a b s p e f = (omega arith, omega arith)
+
+  pub pass-none : length (N .children) ≡ 0 → passCount N ≡ 0
+  pass-none e = ap (sumTo (λ y. cond (eqb y 0) 1 (width (childAt N y)))) e
+
+  pub pass-some : (length (N .children) ≡ 0 → ⊥) → (widthsTo N (length (N .children)) - width (childAt N 0) + 1 ≡ passCount N) × (width (childAt N 0) ≤ widthsTo N (length (N .children)))
+  pass-some h = go (length (N .children)) h
+    where
+      go : (k : ℕ) → (k ≡ 0 → ⊥) → (widthsTo N k - width (childAt N 0) + 1 ≡ sumTo (λ y. cond (eqb y 0) 1 (width (childAt N y))) k) × (width (childAt N 0) ≤ widthsTo N k)
+      go zero l = absurd (l refl)
+      go (suc k) l = from-widths (widthsTo N (suc k)) (width (childAt N 0)) (sumTo (λ i. width (childAt N (suc i))) k) (sumTo (λ y. cond (eqb y 0) 1 (width (childAt N y))) (suc k)) (widths-first k) (passes-first k)
+
+  -- of what the code has at hand
+  pub passed : {e a b : ℕ} → e ≡ length (N .children) → (e ≡ 0 → ⊥) → a ≡ widthsTo N (length (N .children)) → b ≡ width (childAt N 0) → (b ≤ a) × (a - b + 1 ≡ passCount N)
+  passed {e} {a} {b} q h f g = let t = pass-some (λ z. h (q ∙ z)) in (omega (arith, f, g, t .1), rw (f, g) (t .0))
+
+-- (a) to (g), from what the code has counted
+module _ (T : Table) (N : Node) where
+  pub letters-count : {m w s p t a b j e : ℕ} → (m ≡ length (N .methods)) × (m ≤ 128) → (w ≡ widthsTo N (length (N .children))) × (w ≤ 1024) → (s ≡ length (N .steps)) × (s ≤ 64) → (p ≡ passCount N) × (p ≤ 1025)
+      → (t ≡ tasksN N) × (t ≤ 128) → (a ≡ pairCount t) × (a ≤ 8128) → (b ≡ pairCount m) × (b ≤ 8128) → (j ≡ length (N .jobs)) × (j ≤ 64) → (e ≡ sumTo (bodyCount T N) (length (N .methods))) × (e ≤ 131072)
+      → (a + b + j + m + e + s * p + w ≡ nodeCount T N) × (a + b + j + m + e + s * p + w ≤ 917504)
+  letters-count {m} {w} {s} {p} {t} {a} {b} {j} {e} hm hw hs hp ht ha hb hj he =
+      let fa : a ≡ pairCount (tasksN N) = ha .0 ∙ ap pairCount (ht .0) in
+      let fb : b ≡ pairCount (length (N .methods)) = hb .0 ∙ ap pairCount (hm .0) in
+      let fp : s * p ≡ length (N .steps) * passCount N = ap₂ (λ (x y : ℕ). x * y) (hs .0) (hp .0) in
+      let l : s * p ≤ 64 * 1025 = product-most (hs .1) (hp .1) in
+      (omega (arith, fa, fb, fp, hj .0, hm .0, he .0, hw .0), omega (arith, l, ha .1, hb .1, hj .1, hm .1, he .1, hw .1))
+
+-- rows are short
+module _ {T : Table} {ix : List ℕ} {n : ℕ} where
+  letter : InNode T ix n → (g : ℕ) → g < 7 → InGroup T ix 1 n g
+  letter i g h = record { indexed = i .indexed; rule = omega arith; there = i .there; group = h }
+
+  pub width-most : InNode T ix n → {k y : ℕ} → y < length ((node T n) .children) → k ≡ width (childAt (node T n) y) → k ≤ 128
+  width-most i {k} {y} h e = in-row (letter i 6 (omega arith)) {k = k} {x = y} {y = 0} h (omega arith) e .1
+
+  pub body-most : InNode T ix n → {k x y : ℕ} → x < length ((node T n) .methods) → y < length ((node T n) .children) → k ≡ cond (namedAt T (node T n) x y) 1 (width (childAt (node T n) y)) → k ≤ 128
+  body-most i {k} {x} {y} h l e = in-row (letter i 4 (omega arith)) {k = k} {x = x} {y = y} h l e .1
+
+  pub effect-most : InSlot T ix n → {k x : ℕ} → x < length (slotAt (source T) n) → {y : ℕ} → y < 3 → k ≡ length (effectFacts T ((getD (slotAt (source T) n) x (0, 0)) .1) y) → k ≤ 128
+  effect-most i {k} {x} h {y} l e =
+      let at : InGroup T ix 3 n 0 = record { indexed = i .indexed; rule = omega arith; there = i .there; group = omega arith } in
+      in-row at {k = k} {x = x} {y = y} h l e .1
+
+  -- rule 4 of a step: its three parts
+  pub effects-count : InSlot T ix n → {x s a b d : ℕ} → x < length (slotAt (source T) n) → s ≡ (getD (slotAt (source T) n) x (0, 0)) .1
+      → a ≡ length (effectFacts T s 0) → b ≡ length (effectFacts T s 1) → d ≡ length (effectFacts T s 2)
+      → (a + (b + d) ≡ effectCount T ((getD (slotAt (source T) n) x (0, 0)) .1)) × (a + (b + d) ≤ 384)
+  effects-count i {x} {s} {a} {b} {d} h q ea eb ed =
+      let fa : a ≡ length (effectFacts T ((getD (slotAt (source T) n) x (0, 0)) .1) 0) = rw q at ea in
+      let fb : b ≡ length (effectFacts T ((getD (slotAt (source T) n) x (0, 0)) .1) 1) = rw q at eb in
+      let fd : d ≡ length (effectFacts T ((getD (slotAt (source T) n) x (0, 0)) .1) 2) = rw q at ed in
+      (omega (arith, fa, fb, fd), omega (arith, effect-most i h {y = 0} (omega arith) fa, effect-most i h {y = 1} (omega arith) fb, effect-most i h {y = 2} (omega arith) fd))
+
+  -- the steps of a slot, and two clauses a fact
+  pub slot-summed : InSlot T ix n → {e k x f : ℕ} → e ≡ length (slotAt (source T) n) → e ≤ 64 → Summing (λ y. effectCount T ((getD (slotAt (source T) n) y (0, 0)) .1)) 384 e x k → e ≤ x → f ≡ T .facts
+      → (k + (f + f) ≡ slotCount T (slotAt (source T) n)) × (k + (f + f) ≤ 917504)
+  slot-summed i {e} {k} {x} {f} q l s h g =
+      let fk : k ≡ sumTo (λ y. effectCount T ((getD (slotAt (source T) n) y (0, 0)) .1)) (length (slotAt (source T) n)) = summing-all s h ∙ ap (sumTo (λ y. effectCount T ((getD (slotAt (source T) n) y (0, 0)) .1))) q in
+      (omega (arith, fk, g), omega (arith, s .most, s .at, g, i .indexed .accepted .limits .facts))
+
+-- Nodes and slots of a rule ------------------------------------------------------------------------------------------------------
+module _ {T : Table} {ix : List ℕ} (i : Indexed T ix) {r n : ℕ} (h : n < nodesIn (source T) r) where
+  pub node-of : r ≡ 1 → InNode T ix n
+  node-of e = record { indexed = i; there = rw e at h }
+
+  pub slot-of : r ≡ 3 → InSlot T ix n
+  slot-of e = record { indexed = i; there = rw e at h }
+
+module _ (T : Table) (n : ℕ) {r k : ℕ} where
+  pub letters-at : r ≡ 1 → (k ≡ nodeCount T (node T n)) × (k ≤ 917504) → (k ≡ countAt (source T) r n) × (k ≤ 917504)
+  letters-at e c = (rw e (c .0), c .1)
+
+  pub slot-at : r ≡ 3 → (k ≡ slotCount T (slotAt (source T) n)) × (k ≤ 917504) → (k ≡ countAt (source T) r n) × (k ≤ 917504)
+  slot-at e c = (rw e (c .0), c .1)
+
+pub facts-at : {T : Table} {ix : List ℕ} → Indexed T ix → (n : ℕ) {r k : ℕ} → r ≡ 2 → k ≡ T .facts → (k ≡ countAt (source T) r n) × (k ≤ 917504)
+facts-at i n e f = (rw e f, omega (arith, f, i .accepted .limits .facts))
+
+pub root-at : (T : Table) (r n : ℕ) → r < 4 → (r ≡ 1 → ⊥) → (r ≡ 3 → ⊥) → (r ≡ 2 → ⊥) → (1 ≡ countAt (source T) r n) × (_≤_ 1 917504)
+root-at T zero n h a b c = (refl, omega arith)
+root-at T (suc zero) n h a b c = absurd (a refl)
+root-at T (suc (suc zero)) n h a b c = absurd (c refl)
+root-at T (suc (suc (suc zero))) n h a b c = absurd (b refl)
+root-at T (suc (suc (suc (suc r)))) n h a b c = absurd (omega arith)
 
 -- Seeking ----------------------------------------------------------------------------------------------------------------------
 -- passing over places of a row

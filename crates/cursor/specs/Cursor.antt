@@ -7,9 +7,8 @@ use Prim.Native.Nat.{ℕ, _+_, _-_, _*_, _≤_, _<_}
 use lib.ListN.{drop}
 use Rattle.planning.specs.Table.{Table}
 use Rattle.places.specs.Nest.{Pos, at, left, positions}
-use Rattle.places.specs.ClausePlace.{Source, shape, groupAt, groupsIn, nodesIn, rowLen}
+use Rattle.places.specs.ClausePlace.{shape, groupsIn, nodesIn, rowLen}
 use Rattle.places.specs.Cursor.{after, Seeking}
-use Rattle.places.specs.Total.{sumTo}
 use Rattle.index.specs.Index.{source}
 use Rattle.cursor.specs.declared.Cursor.{Cursor}
 use Rattle.cursor.specs.declared.Next.{Next}
@@ -83,10 +82,6 @@ pub record NodePassed (T : Table) (c d : Cursor) : Type 0 where
   pub less : rankOf d < rankOf c
   pub inside : In T d
   pub start : (d .group ≡ 0) × (d .x ≡ 0) × (d .y ≡ 0) × (d .i ≡ 0)
-
--- the clauses of a letter, row by row
-abbrev pub columnsCount : Source → (r n g : ℕ) → ℕ
-columnsCount S r n g = sumTo (λ x. sumTo (λ y. rowLen S r n g x y) ((groupAt S r n g) .ys)) ((groupAt S r n g) .xs)
 
 -- a row's first place, from which k clauses are to be passed over to stand before clause j
 pub record SoughtRow (T : Table) (j k : ℕ) (c : Cursor) : Type 0 where

@@ -2,14 +2,14 @@
 // and `ix` its index.
 ghost use mathlib.Core.Path.{_≡_};
 ghost use Prim.Native.Nat.{_+_, _≤_, _<_};
-ghost use lib.ListN.{length, drop};
+ghost use lib.ListN.{length, drop, getD};
 ghost use Rattle.places.specs.Nest.{at};
-ghost use Rattle.places.specs.ClausePlace.{nodesIn, groupAt, rowLen};
-ghost use Rattle.places.specs.Total.{sumTo, countAt, clauseCount};
+ghost use Rattle.places.specs.ClausePlace.{nodesIn, slotAt};
+ghost use Rattle.places.specs.Total.{sumTo, pairCount, widthsTo, bodyCount, passCount, nodeCount, effectCount, slotCount, countAt, clauseCount};
 ghost use Rattle.sheet.specs.Sheet.{tableIn};
 ghost use Rattle.index.specs.Index.{source};
-ghost use Rattle.shape.specs.Shape.{Indexed, InGroup};
-ghost use Rattle.cursor.specs.Cursor.{ofPos, atEnd, nextOf, Stands, In, Handed, Moved, NodePassed, columnsCount, SoughtRow, Found};
+ghost use Rattle.shape.specs.Shape.{node, Indexed, InNode, InSlot, InGroup};
+ghost use Rattle.cursor.specs.Cursor.{ofPos, atEnd, nextOf, Stands, In, Handed, Moved, NodePassed, SoughtRow, Found};
 
 // A place among the clauses: rule, node, letter, row and clause of the row; and how many clauses the row has, worked out once a row. As a
 // cursor it stands just behind the last clause handed out.
@@ -124,47 +124,123 @@ impl Cursor {
 }
 
 // Counts ---------------------------------------------------------------------------------------------------------------------
-// The clauses of column x of letter g, which has e rows, of the letter, of node n, of rule r.
-fn count_rows(ws: &[u64], ix: &[u64], r: usize, n: usize, g: usize, x: usize, e: usize) -> usize
-    requires { ⌜ InGroup (tableIn (now ws)) (now ix) r n g × (x < (groupAt (source (tableIn (now ws))) r n g) .xs) × (e ≡ (groupAt (source (tableIn (now ws))) r n g) .ys) × (e ≤ 8) ⌝ }
-    ensures { λ k. ⌜ (k ≡ sumTo (λ y. rowLen (source (tableIn (now (ws .entry)))) r n g x y) ((groupAt (source (tableIn (now (ws .entry)))) r n g) .ys)) × (k ≤ 1024) ⌝ }
+// How many pairs n variables make.
+fn pairs(n: usize) -> usize
+    requires { ⌜ n ≤ 128 ⌝ }
+    ensures { λ r. ⌜ (r ≡ pairCount n) × (r ≤ 8128) ⌝ }
 {
+    if n == 0 {
+        return 0;
+    }
+    n * (n - 1) / 2
+}
+
+// How many task variables the children of node n have together: the clauses of (g).
+fn count_widths(ws: &[u64], ix: &[u64], n: usize) -> usize
+    requires { ⌜ InNode (tableIn (now ws)) (now ix) n ⌝ }
+    ensures { λ k. ⌜ (k ≡ widthsTo (node (tableIn (now (ws .entry))) n) (length ((node (tableIn (now (ws .entry))) n) .children))) × (k ≤ 1024) ⌝ }
+{
+    let e = shape::children_of(ws, ix, n);
     let mut k: usize = 0;
     let mut y: usize = 0;
     while y < e {
-        k += shape::len_in(ws, ix, r, n, g, x, y);
+        k += shape::width(ws, ix, n, y);
         y += 1;
     }
     k
 }
 
-fn count_columns(ws: &[u64], ix: &[u64], r: usize, n: usize, g: usize) -> usize
-    requires { ⌜ InGroup (tableIn (now ws)) (now ix) r n g ⌝ }
-    ensures { λ k. ⌜ (k ≡ columnsCount (source (tableIn (now (ws .entry)))) r n g) × (k ≤ 131072) ⌝ }
+// (f) of one step: a clause for the first child, and one for each task variable of the others. `all` is how many the children have together.
+fn count_pass(ws: &[u64], ix: &[u64], n: usize, all: usize) -> usize
+    requires { ⌜ InNode (tableIn (now ws)) (now ix) n × (all ≡ widthsTo (node (tableIn (now ws)) n) (length ((node (tableIn (now ws)) n) .children))) × (all ≤ 1024) ⌝ }
+    ensures { λ k. ⌜ (k ≡ passCount (node (tableIn (now (ws .entry))) n)) × (k ≤ 1025) ⌝ }
 {
-    let rows = shape::ys_in(ws, ix, r, n, g);
-    let e = shape::xs_in(ws, ix, r, n, g);
+    if shape::children_of(ws, ix, n) == 0 {
+        return 0;
+    }
+    all - shape::width(ws, ix, n, 0) + 1
+}
+
+// (e) of method x, and of all methods.
+fn count_body(ws: &[u64], ix: &[u64], n: usize, x: usize) -> usize
+    requires { ⌜ InNode (tableIn (now ws)) (now ix) n × (x < length ((node (tableIn (now ws)) n) .methods)) ⌝ }
+    ensures { λ k. ⌜ (k ≡ bodyCount (tableIn (now (ws .entry))) (node (tableIn (now (ws .entry))) n) x) × (k ≤ 1024) ⌝ }
+{
+    let e = shape::children_of(ws, ix, n);
+    let mut k: usize = 0;
+    let mut y: usize = 0;
+    while y < e {
+        k += shape::body_len(ws, ix, n, x, y);
+        y += 1;
+    }
+    k
+}
+
+fn count_bodies(ws: &[u64], ix: &[u64], n: usize) -> usize
+    requires { ⌜ InNode (tableIn (now ws)) (now ix) n ⌝ }
+    ensures { λ k. ⌜ (k ≡ sumTo (bodyCount (tableIn (now (ws .entry))) (node (tableIn (now (ws .entry))) n)) (length ((node (tableIn (now (ws .entry))) n) .methods))) × (k ≤ 131072) ⌝ }
+{
+    let e = shape::methods_of(ws, ix, n);
     let mut k: usize = 0;
     let mut x: usize = 0;
     while x < e {
-        k += count_rows(ws, ix, r, n, g, x, rows);
+        k += count_body(ws, ix, n, x);
         x += 1;
     }
     k
 }
 
+// (a) to (g) of node n.
+fn count_letters(ws: &[u64], ix: &[u64], n: usize) -> usize
+    requires { ⌜ InNode (tableIn (now ws)) (now ix) n ⌝ }
+    ensures { λ k. ⌜ (k ≡ nodeCount (tableIn (now (ws .entry))) (node (tableIn (now (ws .entry))) n)) × (k ≤ 917504) ⌝ }
+{
+    let m = shape::methods_of(ws, ix, n);
+    let all = count_widths(ws, ix, n);
+    let passed = shape::steps_of(ws, ix, n) * count_pass(ws, ix, n, all);
+    let paired = pairs(shape::tasks_of(ws, ix, n)) + pairs(m);
+    paired + shape::jobs_of(ws, ix, n) + m + count_bodies(ws, ix, n) + passed + all
+}
+
+// Rule 4 of variable x of slot n, and of the slot.
+fn count_effects(ws: &[u64], ix: &[u64], n: usize, x: usize) -> usize
+    requires { ⌜ InSlot (tableIn (now ws)) (now ix) n × (x < length (slotAt (source (tableIn (now ws))) n)) ⌝ }
+    ensures { λ k. ⌜ (k ≡ effectCount (tableIn (now (ws .entry))) ((getD (slotAt (source (tableIn (now (ws .entry)))) n) x (0, 0)) .1)) × (k ≤ 384) ⌝ }
+{
+    let s = shape::slot_step(ws, ix, n, x);
+    shape::effect_len(ws, s, 0) + (shape::effect_len(ws, s, 1) + shape::effect_len(ws, s, 2))
+}
+
+fn count_slot(ws: &[u64], ix: &[u64], n: usize) -> usize
+    requires { ⌜ InSlot (tableIn (now ws)) (now ix) n ⌝ }
+    ensures { λ k. ⌜ (k ≡ slotCount (tableIn (now (ws .entry))) (slotAt (source (tableIn (now (ws .entry)))) n)) × (k ≤ 917504) ⌝ }
+{
+    let e = shape::slot_size(ws, ix, n);
+    let mut k: usize = 0;
+    let mut x: usize = 0;
+    while x < e {
+        k += count_effects(ws, ix, n, x);
+        x += 1;
+    }
+    let f = sheet::facts(ws);
+    k + (f + f)
+}
+
+// Node or slot n of rule r.
 pub fn count_node(ws: &[u64], ix: &[u64], r: usize, n: usize) -> usize
     requires { ⌜ Indexed (tableIn (now ws)) (now ix) × (r < 4) × (n < nodesIn (source (tableIn (now ws))) r) ⌝ }
     ensures { λ k. ⌜ (k ≡ countAt (source (tableIn (now (ws .entry)))) r n) × (k ≤ 917504) ⌝ }
 {
-    let e = shape::groups_in(r);
-    let mut k: usize = 0;
-    let mut g: usize = 0;
-    while g < e {
-        k += count_columns(ws, ix, r, n, g);
-        g += 1;
+    if r == 1 {
+        return count_letters(ws, ix, n);
     }
-    k
+    if r == 3 {
+        return count_slot(ws, ix, n);
+    }
+    if r == 2 {
+        return sheet::facts(ws);
+    }
+    1
 }
 
 fn count_rule(ws: &[u64], ix: &[u64], r: usize) -> usize

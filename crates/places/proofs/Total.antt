@@ -26,7 +26,7 @@ use Rattle.places.proofs.Formula.{clauseAt, good, groups-map, nodes-map
 use Rattle.places.proofs.Walk.{upFrom-end, upFrom-more, left-node-start}
 
 -- Sums --------------------------------------------------------------------------------------------------------------------
-sumTo-first : (f : ℕ → ℕ) (n : ℕ) → sumTo f (suc n) ≡ f 0 + sumTo (λ i. f (suc i)) n
+pub sumTo-first : (f : ℕ → ℕ) (n : ℕ) → sumTo f (suc n) ≡ f 0 + sumTo (λ i. f (suc i)) n
 sumTo-first f zero = omega arith
 sumTo-first f (suc n) = omega (arith, sumTo-first f n)
 

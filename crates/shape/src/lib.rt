@@ -117,7 +117,8 @@ fn node_ys(ws: &[u64], ix: &[u64], n: usize, g: usize) -> usize
     }
 }
 
-fn body_len(ws: &[u64], ix: &[u64], n: usize, x: usize, y: usize) -> usize
+// (e) of method x at child y.
+pub fn body_len(ws: &[u64], ix: &[u64], n: usize, x: usize, y: usize) -> usize
     requires { ⌜ InNode (tableIn (now ws)) (now ix) n × (x < length ((node (tableIn (now ws)) n) .methods)) × (y < length ((node (tableIn (now ws)) n) .children)) ⌝ }
     ensures { λ r. ⌜ r ≡ cond (namedAt (tableIn (now (ws .entry))) (node (tableIn (now (ws .entry))) n) x y) 1 (childWidth (childAt (node (tableIn (now (ws .entry))) n) y)) ⌝ }
 {
@@ -200,7 +201,8 @@ pub fn effects(ws: &[u64], s: usize, y: usize) -> FactSet
     facts
 }
 
-fn effect_len(ws: &[u64], s: usize, y: usize) -> usize
+// How many they are.
+pub fn effect_len(ws: &[u64], s: usize, y: usize) -> usize
     requires { ⌜ Accepted (tableIn (now ws)) × (s < 64) × (y < 3) ⌝ }
     ensures { λ r. ⌜ r ≡ length (effectFacts (tableIn (now (ws .entry))) s y) ⌝ }
 {

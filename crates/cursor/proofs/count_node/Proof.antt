@@ -2,55 +2,29 @@ use borrow.Author.Needs.{needs}
 use Rattle.cursor.proofs.count_node.Statement.{statement}
 use Rattle.cursor.proofs.count_node.Tie as tie
 use native.Mathlib.Omega.{arith}
-use Rattle.cursor.proofs.Counts.{Summing, summing-none, summing-more, summing-all, node-count}
 use Rattle.sheet.specs.Sheet.{tableIn}
-use Rattle.index.specs.Index.{source}
-use mathlib.Core.Path.{ap, _∙_}
-use Prim.Native.Nat.{_-_}
-use Rattle.places.specs.Total.{sumTo}
-use Rattle.cursor.specs.Cursor.{columnsCount}
+use Rattle.cursor.proofs.Counts.{node-of, slot-of, letters-at, slot-at, facts-at, root-at}
 
-abbrev Inv-loop : tie.InvT-loop
-Inv-loop ws ix r n e k₀ g₀ k g = Summing (columnsCount (source (tableIn ws)) r n) 131072 e g k
+count-letters-requires : tie.Need-count-letters-requires
+count-letters-requires c κs = node-of (c .before .before .before .pre .0) (c .before .before .before .pre .2) (c .if1 .taken)
 
-abbrev μ-loop : tie.MeasureT-loop
-μ-loop ws ix r n e k₀ g₀ k g = e - g
+returns : tie.Need-returns
+returns c = letters-at (tableIn (c .before .before .before .before .args .ws .now)) (c .before .before .before .before .args .n) (c .before .if1 .taken) (c .count-letters .ensures)
 
-groups-in-requires : tie.Need-groups-in-requires Inv-loop μ-loop
-groups-in-requires c κs = search needs
+count-slot-requires : tie.Need-count-slot-requires
+count-slot-requires c κs = slot-of (c .before .before .before .before .pre .0) (c .before .before .before .before .pre .2) (c .if2 .taken)
 
-loop-holds : tie.Need-loop-holds Inv-loop μ-loop
-loop-holds c = summing-none (columnsCount (source (tableIn (c .before .before .before .args .ws .now))) (c .before .before .before .args .r) (c .before .before .before .args .n)) 131072 (c .groups-in .result)
+returns-2 : tie.Need-returns-2
+returns-2 c = slot-at (tableIn (c .before .before .before .before .before .args .ws .now)) (c .before .before .before .before .before .args .n) (c .before .if2 .taken) (c .count-slot .ensures)
 
-count-columns-requires : tie.Need-count-columns-requires Inv-loop μ-loop
-count-columns-requires c κs = record { indexed = c .before .before .before .before .before .pre .0; rule = c .before .before .before .before .before .pre .1; there = c .before .before .before .before .before .pre .2; group = omega (arith, c .loop-test .taken, c .before .before .groups-in .ensures .0) }
+facts-requires : tie.Need-facts-requires
+facts-requires c κs = search needs
 
-add-k : tie.Need-add-k Inv-loop μ-loop
-add-k c = omega (arith, c .before .before .loop .inv .most, c .before .loop-test .taken, c .before .before .before .groups-in .ensures .1, c .count-columns .ensures .1)
+returns-3 : tie.Need-returns-3
+returns-3 c = facts-at (c .before .before .before .before .before .before .pre .0) (c .before .before .before .before .before .before .args .n) (c .before .if3 .taken) (c .facts .ensures)
 
-add-g : tie.Need-add-g Inv-loop μ-loop
-add-g c = omega (arith, c .before .loop-test .taken, c .before .before .before .groups-in .ensures .1)
-
-loop-less : tie.Need-loop-less Inv-loop μ-loop
-loop-less c = omega (arith, c .before .loop-test .taken)
-
-loop-again : tie.Need-loop-again Inv-loop μ-loop
-loop-again c = summing-more (c .before .before .loop .inv) (c .before .loop-test .taken) (c .count-columns .ensures .0) (c .count-columns .ensures .1)
-
-returns : tie.Need-returns Inv-loop μ-loop
-returns c = (summing-all (c .before .loop .inv) (c .loop-test .left) ∙ ap (sumTo (columnsCount (source (tableIn (c .before .before .before .before .before .args .ws .now))) (c .before .before .before .before .before .args .r) (c .before .before .before .before .before .args .n))) (c .before .before .groups-in .ensures .0) ∙ node-count (source (tableIn (c .before .before .before .before .before .args .ws .now))) (c .before .before .before .before .before .args .r) (c .before .before .before .before .before .args .n) (c .before .before .before .before .before .pre .2), omega (arith, c .before .loop .inv .most, c .before .loop .inv .at, c .before .before .groups-in .ensures .1))
+returns-4 : tie.Need-returns-4
+returns-4 c = root-at (tableIn (c .before .before .before .before .before .args .ws .now)) (c .before .before .before .before .before .args .r) (c .before .before .before .before .before .args .n) (c .before .before .before .before .before .pre .1) (c .before .before .if1 .left) (c .before .if2 .left) (c .if3 .left)
 
 pub count-node-spec : {M : Type 1} → statement M
-count-node-spec =
-    tie.close
-    (tie.spec
-    Inv-loop
-    μ-loop
-    groups-in-requires
-    loop-holds
-    count-columns-requires
-    add-k
-    add-g
-    loop-less
-    loop-again
-    returns)
+count-node-spec = tie.close (tie.spec count-letters-requires returns count-slot-requires returns-2 facts-requires returns-3 returns-4)
