@@ -5,7 +5,7 @@
  *
  * Of the caller C wants what Rattle's types say: a pointer is aligned and never NULL, also where the length beside it is 0; it leads to
  * as many elements as that length says; what is lent for writing overlaps nothing else that is lent. Lengths and counts are in elements:
- * bytes of files, texts and listings, words of a tree, values. A call uses up to some 300 KB of stack. */
+ * bytes of files, texts and listings, records of a tree, values. A call uses up to some 300 KB of stack. */
 #ifndef CURDFUTURE_H
 #define CURDFUTURE_H
 
@@ -13,7 +13,7 @@
 #include <stdint.h>
 
 /* How much a call wants to be lent (question 1). */
-#define CURDFUTURE_TREE_WORDS 5120
+#define CURDFUTURE_TREE_RECORDS 1024
 #define CURDFUTURE_TEXT_BYTES 1024
 #define CURDFUTURE_VALUES 8191
 #define CURDFUTURE_LISTING_BYTES 24576
@@ -22,25 +22,33 @@
 extern "C" {
 #endif
 
+/* A record of the tree of places. A set has bit i for number i. */
+struct curdfuture_node {
+    uint64_t depth;    /* the node's depth */
+    uint64_t parent;   /* its parent's number, 0 at the root */
+    uint64_t children; /* its child count */
+    uint64_t steps;    /* the set of steps it may hold */
+    uint64_t jobs;     /* the set of jobs it may hold */
+};
+
 /* Checks a table (questions 2 to 9): how many nodes, variables and clauses there are. */
 size_t curdfuture_check(const uint8_t *file, size_t file_length, size_t *nodes, size_t *variables, size_t *clauses);
 
-/* Builds the tree of places, five words a record, one record a node (1 to 9): depth, parent's number, child count, steps and jobs as sets
- * with bit i for number i. How many nodes there are; words behind their records stay as they were. */
-size_t curdfuture_build(const uint8_t *file, size_t file_length, uint64_t *tree, size_t tree_length, size_t *nodes);
+/* Builds the tree of places, one record a node (1 to 9): how many nodes there are. Records behind theirs stay as they were. */
+size_t curdfuture_build(const uint8_t *file, size_t file_length, struct curdfuture_node *tree, size_t tree_length, size_t *nodes);
 
 /* Writes the formula's text from a line on, as many whole lines as fit; line 0 is the header, line k clause k (1 to 11). How many bytes
  * were used, and the next line: one more than there are clauses at the end. */
-size_t curdfuture_write_text(const uint8_t *file, size_t file_length, const uint64_t *tree, size_t tree_length, size_t line, uint8_t *text,
-                             size_t text_length, size_t *used, size_t *next);
+size_t curdfuture_write_text(const uint8_t *file, size_t file_length, const struct curdfuture_node *tree, size_t tree_length, size_t line,
+                             uint8_t *text, size_t text_length, size_t *used, size_t *next);
 
 /* Takes a solver's answer (1 to 10, 12 to 15): how many values were written; variable j's is element j - 1, 1 if it is true and 0 if not. */
-size_t curdfuture_take_answer(const uint8_t *file, size_t file_length, const uint64_t *tree, size_t tree_length, const uint8_t *answer,
-                              size_t answer_length, uint8_t *values, size_t values_length, size_t *count);
+size_t curdfuture_take_answer(const uint8_t *file, size_t file_length, const struct curdfuture_node *tree, size_t tree_length,
+                              const uint8_t *answer, size_t answer_length, uint8_t *values, size_t values_length, size_t *count);
 
 /* Lists the procedure that values give (1 to 10, 14 and 15): how many bytes were used. */
-size_t curdfuture_list_procedure(const uint8_t *file, size_t file_length, const uint64_t *tree, size_t tree_length, const uint8_t *values,
-                                 size_t values_length, uint8_t *listing, size_t listing_length, size_t *used);
+size_t curdfuture_list_procedure(const uint8_t *file, size_t file_length, const struct curdfuture_node *tree, size_t tree_length,
+                                 const uint8_t *values, size_t values_length, uint8_t *listing, size_t listing_length, size_t *used);
 
 #ifdef __cplusplus
 }

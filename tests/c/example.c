@@ -24,9 +24,25 @@ static void met(size_t question) {
     }
 }
 
+/* Do the records read as a tree: the root may hold one job alone, every other node lies one below its parent, and a child count is that of
+ * the nodes with that parent? A header with the fields in another order shows here. */
+static int is_tree(const struct curdfuture_node *tree, size_t nodes) {
+    static uint64_t children[CURDFUTURE_TREE_RECORDS];
+    uint64_t root_jobs = tree[0].jobs;
+    for (size_t i = 1; i < nodes; i++) {
+        if (tree[i].parent >= i || tree[i].depth != tree[tree[i].parent].depth + 1)
+            return 0;
+        children[tree[i].parent]++;
+    }
+    for (size_t i = 0; i < nodes; i++)
+        if (children[i] != tree[i].children)
+            return 0;
+    return tree[0].depth == 0 && tree[0].parent == 0 && tree[0].steps == 0 && root_jobs != 0 && (root_jobs & (root_jobs - 1)) == 0;
+}
+
 int main(int count, char **words) {
     static uint8_t file[MOST], answer[MOST], text[CURDFUTURE_TEXT_BYTES], values[CURDFUTURE_VALUES], listing[CURDFUTURE_LISTING_BYTES];
-    static uint64_t tree[CURDFUTURE_TREE_WORDS];
+    static struct curdfuture_node tree[CURDFUTURE_TREE_RECORDS];
     size_t nodes, built, variables, clauses, set, used, line;
     if (count != 3) {
         fprintf(stderr, "example TABLE ANSWER\n");
@@ -35,14 +51,16 @@ int main(int count, char **words) {
     size_t length = read_file(words[1], file);
     size_t answer_length = read_file(words[2], answer);
     met(curdfuture_check(file, length, &nodes, &variables, &clauses));
-    met(curdfuture_build(file, length, tree, CURDFUTURE_TREE_WORDS, &built));
+    met(curdfuture_build(file, length, tree, CURDFUTURE_TREE_RECORDS, &built));
+    if (built != nodes || !is_tree(tree, built))
+        return 1;
     for (line = 0; line <= clauses;) {
-        met(curdfuture_write_text(file, length, tree, CURDFUTURE_TREE_WORDS, line, text, sizeof text, &used, &line));
+        met(curdfuture_write_text(file, length, tree, CURDFUTURE_TREE_RECORDS, line, text, sizeof text, &used, &line));
         fwrite(text, 1, used, stdout);
     }
-    met(curdfuture_take_answer(file, length, tree, CURDFUTURE_TREE_WORDS, answer, answer_length, values, sizeof values, &set));
-    met(curdfuture_list_procedure(file, length, tree, CURDFUTURE_TREE_WORDS, values, sizeof values, listing, sizeof listing, &used));
+    met(curdfuture_take_answer(file, length, tree, CURDFUTURE_TREE_RECORDS, answer, answer_length, values, sizeof values, &set));
+    met(curdfuture_list_procedure(file, length, tree, CURDFUTURE_TREE_RECORDS, values, sizeof values, listing, sizeof listing, &used));
     printf("\n");
     fwrite(listing, 1, used, stdout);
-    return built == nodes && set == variables ? 0 : 1;
+    return set == variables ? 0 : 1;
 }
