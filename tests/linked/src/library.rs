@@ -1,17 +1,21 @@
 //! The static library under test: its C functions, and a safe function over each. No contract of theirs asks anything of the caller, so
-//! there is nothing to test before a call; a slice is passed as a pointer and a length, and every number that is lent is the caller's own.
+//! there is nothing to test before a call; a slice is passed as a pointer and a length in elements, and every number that is lent is the
+//! caller's own.
 
+use planner::places::Record;
 use planner::{Outcome, Refused};
 
 mod c {
+    use super::Record;
+
     extern "C" {
         pub fn curdfuture_check(file: *const u8, bytes: usize, nodes: &mut usize, variables: &mut usize, clauses: &mut usize) -> usize;
-        pub fn curdfuture_build(file: *const u8, bytes: usize, tree: *mut u64, words: usize, nodes: &mut usize) -> usize;
+        pub fn curdfuture_build(file: *const u8, bytes: usize, tree: *mut Record, records: usize, nodes: &mut usize) -> usize;
         pub fn curdfuture_write_text(
             file: *const u8,
             bytes: usize,
-            tree: *const u64,
-            words: usize,
+            tree: *const Record,
+            records: usize,
             line: usize,
             text: *mut u8,
             room: usize,
@@ -21,8 +25,8 @@ mod c {
         pub fn curdfuture_take_answer(
             file: *const u8,
             bytes: usize,
-            tree: *const u64,
-            words: usize,
+            tree: *const Record,
+            records: usize,
             reply: *const u8,
             length: usize,
             values: *mut u8,
@@ -32,8 +36,8 @@ mod c {
         pub fn curdfuture_list_procedure(
             file: *const u8,
             bytes: usize,
-            tree: *const u64,
-            words: usize,
+            tree: *const Record,
+            records: usize,
             values: *const u8,
             count: usize,
             listing: *mut u8,
@@ -71,7 +75,7 @@ pub fn check(file: &[u8]) -> Called<3> {
 }
 
 /// The node count.
-pub fn build(file: &[u8], tree: &mut [u64]) -> Called<1> {
+pub fn build(file: &[u8], tree: &mut [Record]) -> Called<1> {
     let mut nodes = LENT;
     // SAFETY: as above; `tree` is borrowed for writing, so nothing else refers to it.
     let question = unsafe { c::curdfuture_build(file.as_ptr(), file.len(), tree.as_mut_ptr(), tree.len(), &mut nodes) };
@@ -79,7 +83,7 @@ pub fn build(file: &[u8], tree: &mut [u64]) -> Called<1> {
 }
 
 /// The bytes used and the next line.
-pub fn write_text(file: &[u8], tree: &[u64], line: usize, text: &mut [u8]) -> Called<2> {
+pub fn write_text(file: &[u8], tree: &[Record], line: usize, text: &mut [u8]) -> Called<2> {
     let [mut used, mut next] = [LENT; 2];
     // SAFETY: as above.
     let question = unsafe {
@@ -99,7 +103,7 @@ pub fn write_text(file: &[u8], tree: &[u64], line: usize, text: &mut [u8]) -> Ca
 }
 
 /// How many values were written.
-pub fn take_answer(file: &[u8], tree: &[u64], reply: &[u8], values: &mut [u8]) -> Called<1> {
+pub fn take_answer(file: &[u8], tree: &[Record], reply: &[u8], values: &mut [u8]) -> Called<1> {
     let mut count = LENT;
     // SAFETY: as above.
     let question = unsafe {
@@ -119,7 +123,7 @@ pub fn take_answer(file: &[u8], tree: &[u64], reply: &[u8], values: &mut [u8]) -
 }
 
 /// The bytes used.
-pub fn list_procedure(file: &[u8], tree: &[u64], values: &[u8], listing: &mut [u8]) -> Called<1> {
+pub fn list_procedure(file: &[u8], tree: &[Record], values: &[u8], listing: &mut [u8]) -> Called<1> {
     let mut used = LENT;
     // SAFETY: as above.
     let question = unsafe {
@@ -141,17 +145,20 @@ pub fn list_procedure(file: &[u8], tree: &[u64], values: &[u8], listing: &mut [u
 #[cfg(test)]
 mod tests {
     use super::*;
-    use planner::calls::{LISTING_BYTES, TEXT_BYTES, TREE_WORDS, VALUES};
+    use planner::calls::{LISTING_BYTES, TEXT_BYTES, TREE_RECORDS, VALUES};
     use planner::files::{EXAMPLE, EXAMPLE_ANSWER, EXAMPLE_FORMULA, EXAMPLE_LISTING};
 
-    /// A slice is passed as its pointer and its length, and every value comes back in its own place.
+    /// A slice is passed as its pointer and its length, and every value and every field comes back in its own place.
     #[test]
     fn the_example_through_the_linked_calls() {
         let file = EXAMPLE.as_bytes();
         assert_eq!(check(file).outcome, Ok([2, 5, 9]));
-        let mut tree = [7; TREE_WORDS];
+        let sevens = Record::of([7; Record::FIELDS]);
+        let mut tree = [sevens; TREE_RECORDS];
         assert_eq!(build(file, &mut tree).outcome, Ok([2]));
-        assert_eq!(tree[..11], [0, 0, 1, 0, 1, 1, 0, 0, 1, 0, 7]);
+        let serve = Record { depth: 0, parent: 0, children: 1, steps: 0, jobs: 1 };
+        let lift = Record { depth: 1, parent: 0, children: 0, steps: 1, jobs: 0 };
+        assert_eq!(tree[..3], [serve, lift, sevens]);
         let mut text = [9; TEXT_BYTES];
         assert_eq!(write_text(file, &tree, 0, &mut text).outcome, Ok([EXAMPLE_FORMULA.len(), 10]));
         assert_eq!(text[..EXAMPLE_FORMULA.len()], *EXAMPLE_FORMULA.as_bytes());

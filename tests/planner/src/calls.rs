@@ -3,12 +3,12 @@
 use crate::answer;
 use crate::formula::{formula, Formula};
 use crate::model::{every_clause_is_satisfied, tree};
-use crate::places::record;
+use crate::places::{record, Record};
 use crate::procedure::listing;
 use crate::text::lines_that_fit;
 use crate::{question, Outcome};
 
-pub const TREE_WORDS: usize = 1_024 * 5;
+pub const TREE_RECORDS: usize = 1_024;
 pub const TEXT_BYTES: usize = 1_024;
 pub const VALUES: usize = 8_191;
 pub const LISTING_BYTES: usize = 24_576;
@@ -20,25 +20,24 @@ pub fn check(file: &[u8]) -> Outcome<(usize, usize, usize)> {
 }
 
 /// The node count, and the table's records in the tree.
-pub fn build(file: &[u8], tree: &mut [u64]) -> Outcome<usize> {
-    question(1, tree.len() >= TREE_WORDS)?;
-    let formula = formula(file)?;
-    let words = words(&formula);
-    tree[..words.len()].copy_from_slice(&words);
-    Ok(formula.nodes.len())
+pub fn build(file: &[u8], tree: &mut [Record]) -> Outcome<usize> {
+    question(1, tree.len() >= TREE_RECORDS)?;
+    let records = records(&formula(file)?);
+    tree[..records.len()].copy_from_slice(&records);
+    Ok(records.len())
 }
 
 /// The bytes used and the next line.
-pub fn write_text(file: &[u8], tree: &[u64], line: usize, text: &mut [u8]) -> Outcome<(usize, usize)> {
-    question(1, tree.len() >= TREE_WORDS && text.len() >= TEXT_BYTES)?;
+pub fn write_text(file: &[u8], tree: &[Record], line: usize, text: &mut [u8]) -> Outcome<(usize, usize)> {
+    question(1, tree.len() >= TREE_RECORDS && text.len() >= TEXT_BYTES)?;
     let formula = with_tree(file, tree)?;
     let (lines, next) = lines_that_fit(&formula, line, text.len())?;
     Ok((put(lines.as_bytes(), text), next))
 }
 
 /// How many values were written.
-pub fn take_answer(file: &[u8], tree: &[u64], answer: &[u8], values: &mut [u8]) -> Outcome<usize> {
-    question(1, tree.len() >= TREE_WORDS && values.len() >= VALUES)?;
+pub fn take_answer(file: &[u8], tree: &[Record], answer: &[u8], values: &mut [u8]) -> Outcome<usize> {
+    question(1, tree.len() >= TREE_RECORDS && values.len() >= VALUES)?;
     let formula = with_tree(file, tree)?;
     let taken = answer::values(answer, formula.variables.count)?;
     every_clause_is_satisfied(&formula, &taken)?;
@@ -47,8 +46,8 @@ pub fn take_answer(file: &[u8], tree: &[u64], answer: &[u8], values: &mut [u8]) 
 }
 
 /// The bytes used.
-pub fn list_procedure(file: &[u8], lent: &[u64], values: &[u8], bytes: &mut [u8]) -> Outcome<usize> {
-    question(1, lent.len() >= TREE_WORDS && values.len() >= VALUES && bytes.len() >= LISTING_BYTES)?;
+pub fn list_procedure(file: &[u8], lent: &[Record], values: &[u8], bytes: &mut [u8]) -> Outcome<usize> {
+    question(1, lent.len() >= TREE_RECORDS && values.len() >= VALUES && bytes.len() >= LISTING_BYTES)?;
     let formula = with_tree(file, lent)?;
     let own = &values[..formula.variables.count as usize];
     question(14, own.iter().all(|value| *value <= 1))?;
@@ -57,14 +56,14 @@ pub fn list_procedure(file: &[u8], lent: &[u64], values: &[u8], bytes: &mut [u8]
     Ok(put(listing(&formula.table, &tree(&formula, &model)).as_bytes(), bytes))
 }
 
-fn words(formula: &Formula) -> Vec<u64> {
-    formula.nodes.iter().flat_map(record).collect()
+fn records(formula: &Formula) -> Vec<Record> {
+    formula.nodes.iter().map(record).collect()
 }
 
 /// Questions 2 to 9, then 10: "Are the first lent tree records, as many as the table has nodes, those of this table?"
-fn with_tree(file: &[u8], tree: &[u64]) -> Outcome<Formula> {
+fn with_tree(file: &[u8], tree: &[Record]) -> Outcome<Formula> {
     let formula = formula(file)?;
-    question(10, tree.starts_with(&words(&formula)))?;
+    question(10, tree.starts_with(&records(&formula)))?;
     Ok(formula)
 }
 
@@ -79,8 +78,10 @@ mod tests {
     use crate::files::{EXAMPLE, EXAMPLE_ANSWER, EXAMPLE_FORMULA, EXAMPLE_LISTING};
     use crate::Refused;
 
-    fn example_tree() -> Vec<u64> {
-        let mut tree = vec![7; TREE_WORDS];
+    const SEVENS: Record = Record { depth: 7, parent: 7, children: 7, steps: 7, jobs: 7 };
+
+    fn example_tree() -> Vec<Record> {
+        let mut tree = vec![SEVENS; TREE_RECORDS];
         assert_eq!(build(EXAMPLE.as_bytes(), &mut tree), Ok(2));
         tree
     }
@@ -90,7 +91,7 @@ mod tests {
         let file = EXAMPLE.as_bytes();
         let tree = example_tree();
         assert_eq!(check(file), Ok((2, 5, 9)));
-        assert_eq!(tree[..11], [0, 0, 1, 0, 1, 1, 0, 0, 1, 0, 7]);
+        assert_eq!(tree[..3], [Record::of([0, 0, 1, 0, 1]), Record::of([1, 0, 0, 1, 0]), SEVENS]);
         let mut text = [9; TEXT_BYTES];
         assert_eq!(write_text(file, &tree, 0, &mut text), Ok((EXAMPLE_FORMULA.len(), 10)));
         assert_eq!(text[..EXAMPLE_FORMULA.len()], *EXAMPLE_FORMULA.as_bytes());
@@ -105,17 +106,28 @@ mod tests {
     #[test]
     fn what_calls_turn_down() {
         let file = EXAMPLE.as_bytes();
-        let mut tree = example_tree();
+        let tree = example_tree();
         let mut text = [9; TEXT_BYTES];
         assert_eq!(write_text(file, &tree, 0, &mut text[1..]), Err(Refused(1)));
-        assert_eq!(build(b"", &mut [0; TREE_WORDS - 1]), Err(Refused(1)));
+        assert_eq!(build(b"", &mut [SEVENS; TREE_RECORDS - 1]), Err(Refused(1)));
         assert_eq!(write_text(file, &tree, 10, &mut text), Err(Refused(11)));
         let mut values = [0; VALUES];
         values[4] = 2;
         assert_eq!(list_procedure(file, &tree, &values, &mut [0; LISTING_BYTES]), Err(Refused(14)));
         values[4] = 0;
         assert_eq!(list_procedure(file, &tree, &values, &mut [0; LISTING_BYTES]), Err(Refused(15)));
-        tree[9] = 1;
-        assert_eq!(write_text(file, &tree, 0, &mut text), Err(Refused(10)));
+    }
+
+    #[test]
+    fn a_field_changed() {
+        let (file, tree) = (EXAMPLE.as_bytes(), example_tree());
+        let written = |record: usize, field: usize| {
+            let mut changed = tree.clone();
+            changed[record] = tree[record].with(field, tree[record].fields()[field] + 1);
+            write_text(file, &changed, 0, &mut [0; TEXT_BYTES]).map(|(_, next)| next)
+        };
+        for field in 0..Record::FIELDS {
+            assert_eq!([0, 1, 2].map(|record| written(record, field)), [Err(Refused(10)), Err(Refused(10)), Ok(10)]);
+        }
     }
 }

@@ -67,10 +67,47 @@ fn children(table: &Table, node: &Node) -> Vec<BTreeSet<Task>> {
     holdings
 }
 
-/// A record as five words: depth, parent, child count, the set of steps, the set of jobs.
-pub fn record(node: &Node) -> [u64; 5] {
-    let word = |set: &BTreeSet<usize>| set.iter().map(|member| 1u64 << member).sum();
-    [node.depth as u64, node.parent as u64, node.children.len() as u64, word(&node.steps), word(&node.jobs)]
+/// "A record holds the node's depth, its parent's number (0 at the root), its child count, and the sets of steps and of jobs it may hold."
+/// A set has bit i for number i. Libraries are lent records too, so the fields lie in this order.
+#[repr(C)]
+#[derive(Debug, Clone, Copy, PartialEq, Eq)]
+pub struct Record {
+    pub depth: u64,
+    pub parent: u64,
+    pub children: u64,
+    pub steps: u64,
+    pub jobs: u64,
+}
+
+impl Record {
+    pub const FIELDS: usize = 5;
+
+    pub fn of(fields: [u64; Record::FIELDS]) -> Record {
+        let [depth, parent, children, steps, jobs] = fields;
+        Record { depth, parent, children, steps, jobs }
+    }
+
+    pub fn fields(&self) -> [u64; Record::FIELDS] {
+        [self.depth, self.parent, self.children, self.steps, self.jobs]
+    }
+
+    /// The same but for one field.
+    pub fn with(&self, field: usize, value: u64) -> Record {
+        let mut fields = self.fields();
+        fields[field] = value;
+        Record::of(fields)
+    }
+}
+
+pub fn record(node: &Node) -> Record {
+    let bits = |set: &BTreeSet<usize>| set.iter().map(|member| 1u64 << member).sum();
+    Record {
+        depth: node.depth as u64,
+        parent: node.parent as u64,
+        children: node.children.len() as u64,
+        steps: bits(&node.steps),
+        jobs: bits(&node.jobs),
+    }
 }
 
 #[cfg(test)]
@@ -94,7 +131,9 @@ mod tests {
     #[test]
     fn the_example_has_two_nodes() {
         let nodes = places(&read(EXAMPLE.as_bytes()).unwrap()).unwrap();
-        let records: Vec<[u64; 5]> = nodes.iter().map(record).collect();
-        assert_eq!(records, [[0, 0, 1, 0, 1], [1, 0, 0, 1, 0]]);
+        let records: Vec<Record> = nodes.iter().map(record).collect();
+        let serve = Record { depth: 0, parent: 0, children: 1, steps: 0, jobs: 1 };
+        let lift = Record { depth: 1, parent: 0, children: 0, steps: 1, jobs: 0 };
+        assert_eq!(records, [serve, lift]);
     }
 }

@@ -3,10 +3,11 @@
 
 use linked::clock::{in_turns, shown, Times, Work};
 use linked::{direct, library};
-use planner::calls::{self as second, TEXT_BYTES, TREE_WORDS, VALUES};
+use planner::calls::{self as second, TEXT_BYTES, TREE_RECORDS, VALUES};
 use planner::dimacs::answer;
 use planner::formula::formula;
 use planner::make::draft::{Draft, DraftStep};
+use planner::places::Record;
 use planner::text::whole;
 use std::hint::black_box;
 use std::path::{Path, PathBuf};
@@ -51,9 +52,9 @@ impl Input {
         self
     }
 
-    /// Its records, in as many words as a call wants.
-    fn tree(&self) -> Vec<u64> {
-        let mut tree = vec![0; TREE_WORDS];
+    /// Its records, among as many as a call wants.
+    fn tree(&self) -> Vec<Record> {
+        let mut tree = vec![Record::of([0; Record::FIELDS]); TREE_RECORDS];
         library::build(&self.file, &mut tree).outcome.expect("a table that is measured is accepted");
         tree
     }

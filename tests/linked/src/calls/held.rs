@@ -1,6 +1,7 @@
 //! One linked call beside the second planner's, on the same contents.
 
 use crate::library::Called;
+use planner::places::Record;
 use planner::runs::Tally;
 use planner::Outcome;
 
@@ -9,41 +10,64 @@ pub const MARGIN: usize = 16;
 
 /// What a call reads besides the file.
 pub enum Lent<'a> {
-    Words(&'a [u64]),
+    Records(&'a [Record]),
     Bytes(&'a [u8]),
+}
+
+/// A copy of what a call reads, to see afterwards that it is as before.
+#[derive(PartialEq)]
+enum Copied {
+    Records(Vec<Record>),
+    Bytes(Vec<u8>),
 }
 
 /// What a buffer is made of.
 pub trait Element: Copy + PartialEq {
-    fn bytes(elements: &[Self]) -> Vec<u8>;
+    /// As a failing case is saved; so many elements are a margin in front of what was lent.
+    fn shown(elements: &[Self], margin: usize) -> Vec<u8>;
 }
 
 impl Element for u8 {
-    fn bytes(elements: &[u8]) -> Vec<u8> {
+    fn shown(elements: &[u8], _: usize) -> Vec<u8> {
         elements.to_vec()
     }
 }
 
-impl Element for u64 {
-    fn bytes(elements: &[u64]) -> Vec<u8> {
-        elements.iter().flat_map(|word| word.to_le_bytes()).collect()
+/// Lines of text, for the eye and for `diff`: a record's number among those lent, below 0 in front of them, and its fields.
+impl Element for Record {
+    fn shown(elements: &[Record], margin: usize) -> Vec<u8> {
+        let mut text = "number\tdepth\tparent\tchildren\tsteps\tjobs\n".to_string();
+        for (place, Record { depth, parent, children, steps, jobs }) in elements.iter().enumerate() {
+            let number = place as isize - margin as isize;
+            text += &format!("{number}\t{depth}\t{parent}\t{children}\t{steps:#x}\t{jobs:#x}\n");
+        }
+        text.into_bytes()
     }
 }
 
 impl Lent<'_> {
-    fn bytes(&self) -> Vec<u8> {
+    fn copied(&self) -> Copied {
         match self {
-            Lent::Words(words) => u64::bytes(words),
-            Lent::Bytes(bytes) => u8::bytes(bytes),
+            Lent::Records(records) => Copied::Records(records.to_vec()),
+            Lent::Bytes(bytes) => Copied::Bytes(bytes.to_vec()),
         }
     }
 }
 
-/// A call with what it is lent for reading.
+impl Copied {
+    fn shown(&self) -> Vec<u8> {
+        match self {
+            Copied::Records(records) => Record::shown(records, 0),
+            Copied::Bytes(bytes) => u8::shown(bytes, 0),
+        }
+    }
+}
+
+/// A call with what it is lent for reading, and its lengths and other numbers by name.
 pub struct Call<'a> {
     pub name: &'a str,
     pub file: &'a [u8],
-    pub numbers: &'a [usize],
+    pub numbers: &'a [(&'a str, usize)],
     pub lent: &'a [(&'a str, Lent<'a>)],
 }
 
@@ -60,33 +84,40 @@ impl Call<'_> {
         let (mut after, mut wanted) = (contents.to_vec(), contents.to_vec());
         let before = self.inputs();
         let called = linked(&mut after[lent.clone()]);
-        let inputs_kept = self.inputs() == before;
+        let inputs_after = self.inputs();
         let expected = second(&mut wanted[lent]);
         let number = expected.map_or_else(|refused| refused.0, |_| 0);
+        let inputs_kept = inputs_after == before;
         if called.kept && inputs_kept && after == wanted && called.outcome == expected {
             return tally.case(self.name, number, true, &[]);
         }
+        let numbers: String = self.numbers.iter().map(|(name, number)| format!(", {name} {number}")).collect();
         let account = format!(
-            "{} {:?}: {called:?}, expected {expected:?}, buffers the same: {}, inputs as before: {inputs_kept}\n",
+            "{}{numbers}: {called:?}, expected {expected:?}, buffers the same: {}, inputs as before: {inputs_kept}\n",
             self.name,
-            self.numbers,
             after == wanted
         );
+        let mut files = vec![("call".to_string(), account.into_bytes())];
+        files.extend(shown_inputs(&before, &inputs_after));
         let buffers = [("buffer-before", contents), ("buffer-after", &after), ("buffer-expected", &wanted)];
-        let written = buffers.map(|(name, contents)| (name, T::bytes(contents)));
-        let files: Vec<(&str, &[u8])> = [("call", account.as_bytes())]
-            .into_iter()
-            .chain(before.iter().chain(&written).map(|(name, bytes)| (*name, &bytes[..])))
-            .collect();
+        files.extend(buffers.map(|(name, contents)| (name.to_string(), T::shown(contents, MARGIN))));
+        let files: Vec<(&str, &[u8])> = files.iter().map(|(name, bytes)| (name.as_str(), &bytes[..])).collect();
         tally.case(&format!("linked call {}", self.name), number, false, &files);
     }
 
     /// All that is lent for reading. Never part of its caller, which could take it that a call leaves this alone.
     #[inline(never)]
-    fn inputs(&self) -> Vec<(&str, Vec<u8>)> {
-        let file = ("table.tab", self.file.to_vec());
-        std::iter::once(file).chain(self.lent.iter().map(|(name, lent)| (*name, lent.bytes()))).collect()
+    fn inputs(&self) -> Vec<(&str, Copied)> {
+        let file = ("table.tab", Copied::Bytes(self.file.to_vec()));
+        std::iter::once(file).chain(self.lent.iter().map(|(name, lent)| (*name, lent.copied()))).collect()
     }
+}
+
+/// What was lent for reading as it was before, and what of it has changed as it is afterwards.
+fn shown_inputs(before: &[(&str, Copied)], after: &[(&str, Copied)]) -> Vec<(String, Vec<u8>)> {
+    let changed = after.iter().zip(before).filter(|(after, before)| after != before).map(|(after, _)| after);
+    let before = before.iter().map(|(name, input)| (name.to_string(), input.shown()));
+    before.chain(changed.map(|(name, input)| (format!("{name}-after"), input.shown()))).collect()
 }
 
 #[cfg(test)]
@@ -118,5 +149,14 @@ mod tests {
         assert!(!passes(|_| called(Ok([3]), true), |_| Err(Refused(1))));
         assert!(!passes(|_| called(Err(Refused(2)), true), |_| Err(Refused(1))));
         assert!(!passes(|_| called(Err(Refused(1)), false), |_| Err(Refused(1))));
+    }
+
+    #[test]
+    fn records_are_shown_by_number() {
+        let shown = Record::shown(&[Record::of([7; 5]), Record::of([1, 0, 0, 16, 2])], 1);
+        assert_eq!(
+            String::from_utf8_lossy(&shown),
+            "number\tdepth\tparent\tchildren\tsteps\tjobs\n-1\t7\t7\t7\t0x7\t0x7\n0\t1\t0\t0\t0x10\t0x2\n"
+        );
     }
 }

@@ -6,19 +6,26 @@ mod lent;
 
 use crate::library;
 use held::{Call, Lent, MARGIN};
-use lent::{text_lengths, trees, values_lent, Subject};
-use planner::calls::{self as second, LISTING_BYTES, VALUES};
+use lent::{edge_trees, random_records, text_lengths, trees, values_given, values_lent, Subject, LENGTHS};
+use planner::calls::{self as second, LISTING_BYTES, TEXT_BYTES, TREE_RECORDS, VALUES};
+use planner::files::{EXAMPLE, EXAMPLE_ANSWER};
 use planner::make::cases::{answer_case, at_limit, past_limit, table_case, AnswerCase};
 use planner::make::limits::LIMITS;
+use planner::places::Record;
 use planner::random::Random;
 use planner::runs::Tally;
 
 pub fn compare(tally: &mut Tally, random: &mut Random, cases: usize) {
     let before = tally.passed + tally.failed;
     let mut other = Vec::new();
+    tree_calls(tally, random, &Subject::of(EXAMPLE.as_bytes().to_vec()), EXAMPLE_ANSWER.as_bytes());
     for limit in &LIMITS {
         for case in [at_limit(random, limit), past_limit(random, limit)] {
-            table_calls(tally, random, &Subject::of(case.table), &mut other);
+            let subject = Subject::of(case.table);
+            table_calls(tally, random, &subject, &mut other);
+            if subject.tree.len() == TREE_RECORDS {
+                tree_calls(tally, random, &subject, b"");
+            }
         }
     }
     while tally.passed + tally.failed - before < cases {
@@ -30,8 +37,21 @@ pub fn compare(tally: &mut Tally, random: &mut Random, cases: usize) {
     tally.print_given("the five linked calls");
 }
 
+/// Every length and every edge of the tree through each call that is lent it.
+fn tree_calls(tally: &mut Tally, random: &mut Random, subject: &Subject, reply: &[u8]) {
+    for records in LENGTHS {
+        build_call(tally, random, subject, records);
+    }
+    let values = values_given(subject, reply);
+    for tree in edge_trees(random, subject) {
+        text_call(tally, random, subject, &tree, 0, TEXT_BYTES);
+        take_call(tally, random, subject, &tree, reply, VALUES);
+        list_call(tally, random, subject, &tree, &values, LISTING_BYTES);
+    }
+}
+
 /// Check, build and text calls on one table. `other` is the tree of the last table that was accepted.
-fn table_calls(tally: &mut Tally, random: &mut Random, subject: &Subject, other: &mut Vec<u64>) {
+fn table_calls(tally: &mut Tally, random: &mut Random, subject: &Subject, other: &mut Vec<Record>) {
     let file = &subject.file;
     let call = Call { name: "check", file, numbers: &[], lent: &[] };
     call.hold::<u8, 3>(
@@ -40,10 +60,8 @@ fn table_calls(tally: &mut Tally, random: &mut Random, subject: &Subject, other:
         |_| library::check(file),
         |_| second::check(file).map(|(nodes, variables, clauses)| [nodes, variables, clauses]),
     );
-    for words in [5_120, *random.pick(&[0, 5, 5_115, 5_119, 5_121, 5_130, 6_000])] {
-        let lent: Vec<u64> = random_words(random, words + 2 * MARGIN);
-        let call = Call { name: "build", file, numbers: &[words], lent: &[] };
-        call.hold(tally, &lent, |tree| library::build(file, tree), |tree| second::build(file, tree).map(|nodes| [nodes]));
+    for records in [TREE_RECORDS, *random.pick(&LENGTHS)] {
+        build_call(tally, random, subject, records);
     }
     for tree in trees(random, subject, other) {
         let line = *random.pick(&subject.lines);
@@ -56,55 +74,73 @@ fn table_calls(tally: &mut Tally, random: &mut Random, subject: &Subject, other:
     }
 }
 
-fn text_call(tally: &mut Tally, random: &mut Random, subject: &Subject, tree: &[u64], line: usize, length: usize) {
-    let lent = random_bytes(random, length + 2 * MARGIN);
-    let call = Call { name: "write_text", file: &subject.file, numbers: &[tree.len(), line, length], lent: &[("tree", Lent::Words(tree))] };
-    call.hold(
-        tally,
-        &lent,
-        |text| library::write_text(&subject.file, tree, line, text),
-        |text| second::write_text(&subject.file, tree, line, text).map(|(used, next)| [used, next]),
-    );
-}
-
 /// The calls that take the answer and list values, with trees, buffers and values of every kind.
-fn answer_calls(tally: &mut Tally, random: &mut Random, case: &AnswerCase, other: &mut Vec<u64>) {
+fn answer_calls(tally: &mut Tally, random: &mut Random, case: &AnswerCase, other: &mut Vec<Record>) {
     let subject = Subject::of(case.table.clone());
-    let file = &subject.file;
     for tree in trees(random, &subject, other) {
         let room = *random.pick(&[VALUES, VALUES, VALUES, VALUES + 1, VALUES + 300, VALUES - 1, 0]);
-        let lent = random_bytes(random, room + 2 * MARGIN);
-        let answer = [("tree", Lent::Words(&tree)), ("answer.txt", Lent::Bytes(&case.answer))];
-        let call = Call { name: "take_answer", file, numbers: &[tree.len(), room], lent: &answer };
-        call.hold(
-            tally,
-            &lent,
-            |values| library::take_answer(file, &tree, &case.answer, values),
-            |values| second::take_answer(file, &tree, &case.answer, values).map(|count| [count]),
-        );
+        take_call(tally, random, &subject, &tree, &case.answer, room);
         let values = values_lent(random, &subject, &case.answer);
         let room = *random.pick(&[LISTING_BYTES, LISTING_BYTES, LISTING_BYTES, LISTING_BYTES + 1, 30_000, LISTING_BYTES - 1, 0]);
-        let lent = random_bytes(random, room + 2 * MARGIN);
-        let lent_values = [("tree", Lent::Words(&tree)), ("values", Lent::Bytes(&values))];
-        let call = Call { name: "list_procedure", file, numbers: &[tree.len(), values.len(), room], lent: &lent_values };
-        call.hold(
-            tally,
-            &lent,
-            |listing| library::list_procedure(file, &tree, &values, listing),
-            |listing| second::list_procedure(file, &tree, &values, listing).map(|used| [used]),
-        );
+        list_call(tally, random, &subject, &tree, &values, room);
     }
     if !subject.tree.is_empty() {
         other.clone_from(&subject.tree);
     }
 }
 
-fn random_words(random: &mut Random, count: usize) -> Vec<u64> {
-    (0..count).map(|_| random.word()).collect()
+// One call, lent so many records or bytes for writing
+
+fn build_call(tally: &mut Tally, random: &mut Random, subject: &Subject, records: usize) {
+    let file = &subject.file;
+    let lent = random_records(random, records + 2 * MARGIN);
+    let call = Call { name: "build", file, numbers: &[("records", records)], lent: &[] };
+    call.hold(tally, &lent, |tree| library::build(file, tree), |tree| second::build(file, tree).map(|nodes| [nodes]));
+}
+
+fn text_call(tally: &mut Tally, random: &mut Random, subject: &Subject, tree: &[Record], line: usize, room: usize) {
+    let file = &subject.file;
+    let lent = random_bytes(random, room + 2 * MARGIN);
+    let numbers = [("records", tree.len()), ("line", line), ("bytes of text", room)];
+    let call = Call { name: "write_text", file, numbers: &numbers, lent: &[("tree", Lent::Records(tree))] };
+    call.hold(
+        tally,
+        &lent,
+        |text| library::write_text(file, tree, line, text),
+        |text| second::write_text(file, tree, line, text).map(|(used, next)| [used, next]),
+    );
+}
+
+fn take_call(tally: &mut Tally, random: &mut Random, subject: &Subject, tree: &[Record], reply: &[u8], room: usize) {
+    let file = &subject.file;
+    let lent = random_bytes(random, room + 2 * MARGIN);
+    let numbers = [("records", tree.len()), ("values", room)];
+    let answer = [("tree", Lent::Records(tree)), ("answer.txt", Lent::Bytes(reply))];
+    let call = Call { name: "take_answer", file, numbers: &numbers, lent: &answer };
+    call.hold(
+        tally,
+        &lent,
+        |values| library::take_answer(file, tree, reply, values),
+        |values| second::take_answer(file, tree, reply, values).map(|count| [count]),
+    );
+}
+
+fn list_call(tally: &mut Tally, random: &mut Random, subject: &Subject, tree: &[Record], values: &[u8], room: usize) {
+    let file = &subject.file;
+    let lent = random_bytes(random, room + 2 * MARGIN);
+    let numbers = [("records", tree.len()), ("values", values.len()), ("bytes of the listing", room)];
+    let lent_values = [("tree", Lent::Records(tree)), ("values", Lent::Bytes(values))];
+    let call = Call { name: "list_procedure", file, numbers: &numbers, lent: &lent_values };
+    call.hold(
+        tally,
+        &lent,
+        |listing| library::list_procedure(file, tree, values, listing),
+        |listing| second::list_procedure(file, tree, values, listing).map(|used| [used]),
+    );
 }
 
 fn random_bytes(random: &mut Random, count: usize) -> Vec<u8> {
-    let mut bytes: Vec<u8> = random_words(random, count.div_ceil(8)).into_iter().flat_map(u64::to_le_bytes).collect();
+    let mut bytes: Vec<u8> = (0..count.div_ceil(8)).flat_map(|_| random.word().to_le_bytes()).collect();
     bytes.truncate(count);
     bytes
 }

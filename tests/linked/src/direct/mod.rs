@@ -44,6 +44,7 @@ mod tests {
     use planner::calls;
     use planner::formula::formula;
     use planner::make::cases::{answer_case, table_case};
+    use planner::places::Record;
     use planner::random::Random;
     use planner::text::lines_that_fit;
 
@@ -63,7 +64,7 @@ mod tests {
                     assert_eq!(text, expected.unwrap_or_default().0.into_bytes());
                 }
             }
-            let mut tree = vec![0; calls::TREE_WORDS];
+            let mut tree = vec![Record::of([0; Record::FIELDS]); calls::TREE_RECORDS];
             let _ = calls::build(&case.table, &mut tree);
             let (mut values, mut wanted) = (vec![7; calls::VALUES], vec![7; calls::VALUES]);
             let taken = take_answer(&case.table, &case.answer, &mut values);

@@ -1,8 +1,10 @@
 //! What the programs `formulas` and `procedures` print for a line of their index, worked out with the second planner's calls. The programs
 //! put each line through the calls of the crates, with buffers whose contents before are known, and print what the calls hand out and leave.
+//! They keep the tree as words, the fields of one record behind those of another; words that make no whole record lend none.
 
-use crate::calls::{build, check, list_procedure, take_answer, write_text, LISTING_BYTES, TEXT_BYTES, TREE_WORDS, VALUES};
+use crate::calls::{build, check, list_procedure, take_answer, write_text, LISTING_BYTES, TEXT_BYTES, TREE_RECORDS, VALUES};
 use crate::formula::formula;
+use crate::places::Record;
 use crate::text::lines_that_fit;
 use crate::{Outcome, Refused};
 
@@ -49,20 +51,32 @@ fn checksum(bytes: &[u8]) -> u64 {
     bytes.iter().fold(0xcbf2_9ce4_8422_2325, |sum, byte| (sum ^ u64::from(*byte)).wrapping_mul(0x100_0000_01b3))
 }
 
-fn checksum_of_words(words: &[u64]) -> u64 {
-    checksum(&words.iter().flat_map(|word| word.to_le_bytes()).collect::<Vec<u8>>())
+fn checksum_of_words(tree: &[Record]) -> u64 {
+    checksum(&tree.iter().flat_map(Record::fields).flat_map(u64::to_le_bytes).collect::<Vec<u8>>())
+}
+
+/// So many records, the same word in every field.
+fn tree_of(word: u64, records: usize) -> Vec<Record> {
+    vec![Record::of([word; Record::FIELDS]); records]
 }
 
 /// The tree as a build call leaves it in words that were all 0.
-fn built_tree(file: &[u8]) -> Vec<u64> {
-    let mut tree = vec![0; TREE_WORDS];
+fn built_tree(file: &[u8]) -> Vec<Record> {
+    let mut tree = tree_of(0, TREE_RECORDS);
     let _ = build(file, &mut tree);
     tree
 }
 
-fn add_one(tree: &mut [u64], place: usize) {
-    if let Some(word) = tree.get_mut(place) {
-        *word = word.wrapping_add(1);
+/// The records that so many words of the tree make.
+fn records_in(words: usize, tree: &[Record]) -> usize {
+    (words / Record::FIELDS).min(tree.len())
+}
+
+/// Adds one to the word at that place.
+fn add_one(tree: &mut [Record], place: usize) {
+    let (record, field) = (place / Record::FIELDS, place % Record::FIELDS);
+    if let Some(record) = tree.get_mut(record) {
+        *record = record.with(field, record.fields()[field].wrapping_add(1));
     }
 }
 
@@ -76,7 +90,7 @@ pub fn check_line(file: &[u8]) -> Printed {
 
 pub fn build_line(file: &[u8]) -> Printed {
     let mut printed = Printed::new();
-    let mut tree = vec![9; TREE_WORDS];
+    let mut tree = tree_of(9, TREE_RECORDS);
     printed.outcome(&build(file, &mut tree), |nodes| vec![*nodes]);
     printed.value(checksum_of_words(&tree));
     printed.ended()
@@ -117,8 +131,8 @@ pub fn changed_tree_line(file: &[u8], place: usize, line: usize) -> Printed {
 
 /// A text call and a build call with a tree of so many words.
 pub fn short_line(file: &[u8], words: usize) -> Printed {
-    let mut tree = vec![9; TREE_WORDS + 10];
-    let lent = words.min(tree.len());
+    let mut tree = tree_of(9, TREE_RECORDS + 2);
+    let lent = records_in(words, &tree);
     let mut printed = Printed::new();
     printed.outcome(&write_text(file, &tree[..lent], 0, &mut [0; TEXT_BYTES]), |(used, next)| vec![*used, *next]);
     printed.outcome(&build(file, &mut tree[..lent]), |nodes| vec![*nodes]);
@@ -164,7 +178,7 @@ fn print_taken(printed: &mut Printed, outcome: &Outcome<usize>, values: &[u8]) {
     printed.word(kept(values, written));
 }
 
-fn print_listed(printed: &mut Printed, file: &[u8], tree: &[u64], values: &[u8], length: usize) {
+fn print_listed(printed: &mut Printed, file: &[u8], tree: &[Record], values: &[u8], length: usize) {
     let mut listing = vec![7; LISTING_BYTES + 24];
     let lent = length.min(listing.len());
     let outcome = list_procedure(file, tree, values, &mut listing[..lent]);
@@ -185,7 +199,7 @@ pub fn plan_line(file: &[u8], answer: &[u8]) -> Printed {
     printed
 }
 
-fn print_both(printed: &mut Printed, file: &[u8], tree: &[u64], answer: &[u8], values: &[u8], length: usize) {
+fn print_both(printed: &mut Printed, file: &[u8], tree: &[Record], answer: &[u8], values: &[u8], length: usize) {
     let mut own = vec![7; VALUES + 9];
     let outcome = take_answer(file, tree, answer, &mut own[..values.len()]);
     print_taken(printed, &outcome, &own);
@@ -194,12 +208,12 @@ fn print_both(printed: &mut Printed, file: &[u8], tree: &[u64], answer: &[u8], v
 
 /// Both calls, lent so many words of the tree, values and bytes of the listing.
 pub fn room_line(file: &[u8], answer: &[u8], words: usize, bytes: usize, length: usize) -> Printed {
-    let mut tree = vec![9; TREE_WORDS + 10];
+    let mut tree = tree_of(9, TREE_RECORDS + 2);
     let mut values = vec![7; VALUES + 9];
     let _ = build(file, &mut tree);
     let _ = take_answer(file, &tree, answer, &mut values);
     let mut printed = Printed::new();
-    let (tree, values) = (&tree[..words.min(TREE_WORDS + 10)], &values[..bytes.min(VALUES + 9)]);
+    let (tree, values) = (&tree[..records_in(words, &tree)], &values[..bytes.min(VALUES + 9)]);
     print_both(&mut printed, file, tree, answer, values, length);
     printed
 }
