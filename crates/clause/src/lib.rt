@@ -1,7 +1,7 @@
 // The literals of one clause, by its place, written as numbers: 2 * v for variable v, 2 * v + 1 for v negated. `ws` is the table's
 // sheet and `ix` its index.
+mod letters;
 pub mod lookup;
-mod nodes;
 mod slots;
 mod write;
 
@@ -32,8 +32,8 @@ pub fn literals<'a, 'b>(
     ensures { λ k. ⌜ Wrote (now (out .entry)) 0 (map codeOf (literalsOf (source (tableIn (now (ws .entry)))) (placeAt (source (tableIn (now (ws .entry)))) (at r n g x y i)))) (now (out .exit)) k ⌝ }
 {
     match r {
-        0 => nodes::put_job(ws, ix, out, 0, 0, sheet::root(ws)),
-        1 => nodes::node_clause(ws, ix, out, n, g, x, y, i),
+        0 => letters::put_job(ws, ix, out, 0, 0, sheet::root(ws)),
+        1 => letters::node_clause(ws, ix, out, n, g, x, y, i),
         2 => slots::start(ws, ix, out, i),
         _ => slots::slot_clause(ws, ix, out, n, g, x, y, i),
     }

@@ -13,9 +13,6 @@ const PROGRAMS: [&str; 2] = ["formulas", "procedures"];
 /// The programs go through the calls over words and run nothing of these; a static library, which does, is only built once it is proved.
 const NOT_BELOW: [&str; 2] = ["curdfuture/", "nodes/"];
 
-/// `rt try` shows every crate to every other, where no module may bear the name of a crate: in the copy this module gets another one.
-const MODULE: [&str; 2] = ["crates/clause/src/nodes.rt", "crates/clause/src/at_nodes.rt"];
-
 /// One replacement in one file of a crate.
 struct Edit {
     name: String,
@@ -56,24 +53,12 @@ fn edit(repository: &Path, path: &Path) -> Option<Edit> {
         return None;
     }
     let new = field("new:").map(|new| new.strip_prefix(' ').unwrap_or(&new).to_string())?;
-    let mut file = folder.join(file);
-    if file == Path::new(MODULE[0]) {
-        file = PathBuf::from(MODULE[1]);
-    }
-    Some(Edit { name, breaks: field("# ")?, file, old: field("old: ")?, new })
+    Some(Edit { name, breaks: field("# ")?, file: folder.join(file), old: field("old: ")?, new })
 }
 
 fn copy_repository(repository: &Path) {
     run("cp", &["-r", &repository.join("crates").to_string_lossy(), &repository.join("crates.txt").to_string_lossy(), "."]);
     run("git", &["init", "-q"]);
-    rename_module();
-}
-
-fn rename_module() {
-    let root = "crates/clause/src/lib.rt";
-    let text = std::fs::read_to_string(root).expect("the crate of the module is there");
-    let text = text.replace("mod nodes;", "mod at_nodes;").replace("nodes::", "at_nodes::");
-    std::fs::write(root, text).and_then(|()| std::fs::rename(MODULE[0], MODULE[1])).expect("the copy can be changed");
 }
 
 fn store_cases(seed: &str, tables: &str, most: &str) {
