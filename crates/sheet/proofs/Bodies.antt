@@ -3,7 +3,7 @@
 use mathlib.Core.Path.{_≡_, refl, sym, ap, _∙_}
 use mathlib.Core.Logic.{_⊎_, inl, inr}
 use mathlib.Core.List.{List, [], _∷_, map}
-use mathlib.Core.Option.{some}
+use mathlib.Core.Option.{Option, none, some}
 use Prim.Native.Nat.{ℕ, zero, suc, _+_, _*_, _/_, _%_, _≤_, _<_}
 use native.Mathlib.Omega.{arith}
 use lib.ListN.{length, getD, getElem?, set, length-set, length-map}
@@ -13,8 +13,8 @@ use Rattle.lists.proofs.Bool.{some-inj, none≢some}
 use Rattle.lists.proofs.Every.{every-getD, every-imp}
 use Rattle.lists.proofs.Number.{length-from}
 use Rattle.lists.proofs.Order.{le-or-lt}
-use Rattle.lists.proofs.Place.{getD-map-from}
-use Rattle.planning.specs.Table.{step, job, Method, Table, noMethod, jobOf, bodyOf, TaskIn, MethodIn, Sound, Limits}
+use Rattle.lists.proofs.Place.{getD-map-in, getD-map-from}
+use Rattle.planning.specs.Table.{step, job, Task as PlanningTask, Method, Table, noMethod, jobOf, bodyOf, TaskIn, MethodIn, Sound, Limits}
 use Rattle.table.specs.Layout.{taskFrom}
 use Rattle.table.specs.declared.Task.{Task}
 use Rattle.table.specs.declared.Task.the-variants.{Step, Job, Nothing}
@@ -78,25 +78,46 @@ task-coded {T} so li m j x e h = go x e
     go Nothing e = none≢some (e ∙ elem-there (bodyOf T m) j (step 0) h)
 
 -- A body ---------------------------------------------------------------------------------------------------------------------
-pub body-none : (T : Table) (m : ℕ) (o : List ℕ) → BodyPut T m 0 o o
-body-none T m o = record { kept = kept-all (201 + 10 * m) o; tasks = λ j h. absurd (omega arith) }
+pub body-none : (body : ℕ → Option PlanningTask) (m : ℕ) (o : List ℕ) → BodyPut body m 0 o o
+body-none body m o = record { kept = kept-all (201 + 10 * m) o; tasks = λ j h. absurd (omega arith) }
 
-body-more : {T : Table} {m n : ℕ} {o o₁ : List ℕ} (k : ℕ) → BodyPut T m n o o₁ → 201 + 10 * m + n < length o₁ → some (taskIn k) ≡ getElem? (bodyOf T m) n
-    → BodyPut T m (n + 1) o (set o₁ (201 + 10 * m + n) k)
-body-more {T} {m} {n} {o} {o₁} k u l e = record {
+body-more : {body : ℕ → Option PlanningTask} {m n : ℕ} {o o₁ : List ℕ} (k : ℕ) → BodyPut body m n o o₁ → 201 + 10 * m + n < length o₁ → some (taskIn k) ≡ body n
+    → BodyPut body m (n + 1) o (set o₁ (201 + 10 * m + n) k)
+body-more {body} {m} {n} {o} {o₁} k u l e = record {
   kept = kept-both (201 + 10 * m) (201 + 10 * m) o o₁ (set o₁ (201 + 10 * m + n) k) (omega arith) (u .kept)
       (kept-store (201 + 10 * m) o₁ (201 + 10 * m + n) k (omega arith));
   tasks = λ j h. go j h (le-or-lt n j);
 }
   where
-    go : (j : ℕ) → j < n + 1 → (n ≤ j) ⊎ (j < n) → some (taskIn (getD (set o₁ (201 + 10 * m + n) k) (201 + 10 * m + j) 0)) ≡ getElem? (bodyOf T m) j
+    go : (j : ℕ) → j < n + 1 → (n ≤ j) ⊎ (j < n) → some (taskIn (getD (set o₁ (201 + 10 * m + n) k) (201 + 10 * m + j) 0)) ≡ body j
     go j h (inl p) = let d : j ≡ n = omega arith in rw (d, getD-set-same o₁ (201 + 10 * m + n) k 0 l) e
     go j h (inr p) =
         ap (λ (w : ℕ). some (taskIn w)) (kept-store (201 + 10 * m + n) o₁ (201 + 10 * m + n) k (omega arith) (201 + 10 * m + j) (omega arith)) ∙ u .tasks j p
 
-pub body-putting : {T : Table} {m n j : ℕ} {o o₁ : List ℕ} (k : ℕ) → Putting (BodyPut T m) n o o₁ j → j < n → 201 + 10 * m + j < length o₁
-    → some (taskIn k) ≡ getElem? (bodyOf T m) j → Putting (BodyPut T m) n o (set o₁ (201 + 10 * m + j) k) (j + 1)
-body-putting {T} {m} {n} {j} {o} {o₁} k u h l e = putting-more u h (length-set o₁ (201 + 10 * m + j) k) (body-more k (u .put) l e)
+pub body-putting : {body : ℕ → Option PlanningTask} {m n j : ℕ} {o o₁ : List ℕ} (k : ℕ) → Putting (BodyPut body m) n o o₁ j → j < n → 201 + 10 * m + j < length o₁
+    → some (taskIn k) ≡ body j → Putting (BodyPut body m) n o (set o₁ (201 + 10 * m + j) k) (j + 1)
+body-putting {body} {m} {n} {j} {o} {o₁} k u h l e = putting-more u h (length-set o₁ (201 + 10 * m + j) k) (body-more k (u .put) l e)
+
+-- the tasks of an array that has the body's are the body's
+module _ (T : Table) (m : ℕ) (tasks : List Task) (e : map taskFrom tasks ≡ map (getElem? (bodyOf T m)) (upTo 8)) where
+  pub task-of : {j : ℕ} → j < 8 → taskFrom (getD tasks j (Step 0)) ≡ getElem? (bodyOf T m) j
+  task-of {j} h =
+      let l : length tasks ≡ 8 = sym (length-map tasks taskFrom) ∙ ap length e ∙ length-map (upTo 8) (getElem? (bodyOf T m)) ∙ length-from 0 8 in
+      let z : 0 + j ≡ j = omega arith in
+      sym (getD-map-in taskFrom tasks j (Step 0) none (omega (arith, l)))
+      ∙ ap (λ (l : List (Option PlanningTask)). getD l j none) e
+      ∙ getD-map-from (getElem? (bodyOf T m)) 0 8 j none h ∙ ap (getElem? (bodyOf T m)) z
+
+  module _ (li : Limits T) where
+    pub task-room : {n j : ℕ} → n ≡ length (bodyOf T m) → j < n → j < 8
+    task-room q h = omega (arith, body-short li m)
+
+    pub body-of : {n : ℕ} {o o′ : List ℕ} → n ≡ length (bodyOf T m) → BodyPut (λ j. taskFrom (getD tasks j (Step 0))) m (length (bodyOf T m)) o o′
+        → BodyPut (getElem? (bodyOf T m)) m (length (bodyOf T m)) o o′
+    body-of q u = record { kept = u .kept; tasks = λ j h. u .tasks j h ∙ task-of (omega (arith, body-short li m)) }
+
+    pub array-coded : Sound T → {n j : ℕ} → n ≡ length (bodyOf T m) → j < n → Coded (getD tasks j (Step 0))
+    array-coded so {n} {j} q h = task-coded so li m j (getD tasks j (Step 0)) (task-of (task-room q h)) (omega arith)
 
 -- The methods ----------------------------------------------------------------------------------------------------------------
 method-is : (o : List ℕ) (m : ℕ) (x : Method) → getD o (199 + 10 * m) 0 ≡ x .of → getD o (200 + 10 * m) 0 ≡ length (x .body)
@@ -107,7 +128,7 @@ method-is o m x p q r =
     λ k. record { of = p k; body = b k }
 
 pub method-put : {T : Table} (m v n : ℕ) (o o′ : List ℕ) → m < 128 → sheetSize ≤ length o → v ≡ jobOf T m → n ≡ length (bodyOf T m)
-    → BodyPut T m (length (bodyOf T m)) (set (set o (199 + 10 * m) v) (200 + 10 * m) n) o′ → MethodPut T m o o′
+    → BodyPut (getElem? (bodyOf T m)) m (length (bodyOf T m)) (set (set o (199 + 10 * m) v) (200 + 10 * m) n) o′ → MethodPut T m o o′
 method-put {T} m v n o o′ h l e d u =
     let o₁ = set o (199 + 10 * m) v in
     let o₂ = set o₁ (200 + 10 * m) n in

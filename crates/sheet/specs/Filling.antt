@@ -3,11 +3,11 @@
 -- Assumes nothing.
 use mathlib.Core.Path.{_≡_}
 use mathlib.Core.List.{List, [], _∷_}
-use mathlib.Core.Option.{some}
+use mathlib.Core.Option.{Option, some}
 use Prim.Native.Nat.{ℕ, _+_, _*_, _<_}
-use lib.ListN.{length, getD, getElem?}
+use lib.ListN.{length, getD}
 use Rattle.bitset.specs.Set.{members}
-use Rattle.planning.specs.Table.{Table, noMethod, stepOf, bodyOf}
+use Rattle.planning.specs.Table.{Table, Task as PlanningTask, noMethod, stepOf}
 use Rattle.table.specs.declared.Task.{Task}
 use Rattle.table.specs.declared.Task.the-variants.{Step, Job, Nothing}
 use Rattle.sheet.specs.Sheet.{taskIn, stepIn, methodIn}
@@ -41,10 +41,10 @@ Coded (Step s) = s < 64
 Coded (Job j) = j < 64
 Coded Nothing = ⊥
 
--- the first n tasks of method m's body; method m; the first n methods
-pub record BodyPut (T : Table) (m n : ℕ) (o o′ : List ℕ) : Type 0 where
+-- the first n tasks of a body, by their places, at the places of method m's; method m; the first n methods
+pub record BodyPut (body : ℕ → Option PlanningTask) (m n : ℕ) (o o′ : List ℕ) : Type 0 where
   pub kept : Kept (201 + 10 * m) o o′
-  pub tasks : (j : ℕ) → j < n → some (taskIn (getD o′ (201 + 10 * m + j) 0)) ≡ getElem? (bodyOf T m) j
+  pub tasks : (j : ℕ) → j < n → some (taskIn (getD o′ (201 + 10 * m + j) 0)) ≡ body j
 
 pub record MethodPut (T : Table) (m : ℕ) (o o′ : List ℕ) : Type 0 where
   pub kept : Kept (199 + 10 * m) o o′

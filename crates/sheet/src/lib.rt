@@ -202,12 +202,14 @@ fn code_of(x: Task) -> u64
 
 fn put_body(t: Table, m: usize, out: &mut [u64])
     requires { ⌜ Sound (tableFrom t) × Limits (tableFrom t) × (m < 128) × (sheetSize ≤ length (now out)) ⌝ }
-    ensures { λ _. ⌜ BodyPut (tableFrom t) m (length (bodyOf (tableFrom t) m)) (now (out .entry)) (now (out .exit)) ⌝ }
+    ensures { λ _. ⌜ BodyPut (getElem? (bodyOf (tableFrom t) m)) m (length (bodyOf (tableFrom t) m)) (now (out .entry)) (now (out .exit)) ⌝ }
 {
     let n = t.body_size(m);
+    let tasks = t.body(m);
     let mut j: usize = 0;
     while j < n {
-        out[201 + 10 * m + j] = code_of(t.task(m, j));
+        let x = tasks[j];
+        out[201 + 10 * m + j] = code_of(x);
         j += 1;
     }
 }

@@ -18,7 +18,7 @@ use Rattle.lists.proofs.Place.{getD-map-from, getD-map-past, elem-map-from}
 use Rattle.bitset.specs.Set.{members}
 use Rattle.planning.specs.Table.{Step, Method, noStep, noMethod, stepOf, jobOf, bodyOf, Task as PlanningTask}
 use Rattle.lines.specs.Part.{Part, bytesAt}
-use Rattle.table.specs.Layout.{taskAt, stepFrom, methodFrom, tableFrom, partWith, namePartsFrom, noPart, taskFrom}
+use Rattle.table.specs.Layout.{taskAt, stepFrom, methodFrom, tableFrom, partWith, namePartsFrom, noPart, taskFrom, taskWith}
 use Rattle.table.specs.declared.Table.{Table}
 use Rattle.table.specs.declared.Task.the-variants.{Step as StepTask, Job as JobTask, Nothing}
 
@@ -163,6 +163,31 @@ module _ (t : Table) where
             ∙ sym (ap (λ (k : Method). getElem? (k .body) j) (method-in method-there)
             ∙ elem-map-from (λ i. taskAt (t .steps) (getD (t .bodies) (m * 8 + i) 0)) 0 (getD (t .sizes) m 0) j (omega (arith, size-there))
             ∙ ap (λ (i : ℕ). some (taskAt (t .steps) (getD (t .bodies) (m * 8 + i) 0))) z)
+
+      pub task-told : n < 256 → taskWith (t .bodies) (t .steps) (t .methods) n m j ≡ getElem? (bodyOf (tableFrom t) m) j
+      task-told b = ⊎-elim
+          (λ h. rw (le-ltb j n h) (task-past h))
+          (λ h. rw (lt-ltb j n h) (task-here h b _ refl refl))
+          (le-or-lt n j)
+
+    -- the eight places
+    pub body-told : (n : ℕ) → n ≡ cond (ltb m (t .methods)) (getD (t .sizes) m 0) 0 → n < 256 → (r₀ r₁ r₂ r₃ r₄ r₅ r₆ r₇ : Option PlanningTask)
+        → r₀ ≡ taskWith (t .bodies) (t .steps) (t .methods) n m 0 → r₁ ≡ taskWith (t .bodies) (t .steps) (t .methods) n m 1
+        → r₂ ≡ taskWith (t .bodies) (t .steps) (t .methods) n m 2 → r₃ ≡ taskWith (t .bodies) (t .steps) (t .methods) n m 3
+        → r₄ ≡ taskWith (t .bodies) (t .steps) (t .methods) n m 4 → r₅ ≡ taskWith (t .bodies) (t .steps) (t .methods) n m 5
+        → r₆ ≡ taskWith (t .bodies) (t .steps) (t .methods) n m 6 → r₇ ≡ taskWith (t .bodies) (t .steps) (t .methods) n m 7
+        → r₀ ∷ r₁ ∷ r₂ ∷ r₃ ∷ r₄ ∷ r₅ ∷ r₆ ∷ r₇ ∷ [] ≡ map (getElem? (bodyOf (tableFrom t) m)) (upTo 8)
+    body-told n q b r₀ r₁ r₂ r₃ r₄ r₅ r₆ r₇ e₀ e₁ e₂ e₃ e₄ e₅ e₆ e₇ i =
+        (e₀ ∙ task-told 0 n q b) i ∷ (e₁ ∙ task-told 1 n q b) i ∷ (e₂ ∙ task-told 2 n q b) i ∷ (e₃ ∙ task-told 3 n q b) i
+        ∷ (e₄ ∙ task-told 4 n q b) i ∷ (e₅ ∙ task-told 5 n q b) i ∷ (e₆ ∙ task-told 6 n q b) i ∷ (e₇ ∙ task-told 7 n q b) i ∷ []
+
+-- a place of a body, by its byte
+pub task-none : (bodies : List ℕ) (steps methods : ℕ) {n : ℕ} (m : ℕ) {j : ℕ} → n ≤ j → taskFrom Nothing ≡ taskWith bodies steps methods n m j
+task-none bodies steps methods {n} m {j} h = rw (le-ltb j n h)
+
+pub task-some : (bodies : List ℕ) (steps methods : ℕ) {n : ℕ} (m : ℕ) {j k : ℕ} {r : Option PlanningTask} → j < n → k ≡ cond (ltb m methods && ltb j 256) (getD bodies (m * 8 + j) 0) 0 → r ≡ some (taskAt steps k)
+    → r ≡ taskWith bodies steps methods n m j
+task-some bodies steps methods {n} m {j} {k} h d e = rw (lt-ltb j n h) (e ∙ ap (λ (i : ℕ). some (taskAt steps i)) d)
 
 -- a step or a job
 pub task-step : (n k : ℕ) → k < n → taskFrom (StepTask k) ≡ some (taskAt n k)

@@ -2,7 +2,7 @@
 -- Both are shut to other crates, which know them through the contracts of the calls and through Promises.
 -- Assumes nothing.
 use mathlib.Core.Path.{_≡_}
-use mathlib.Core.Bool.{cond}
+use mathlib.Core.Bool.{cond, _&&_}
 use mathlib.Core.List.{List, [], _∷_, map}
 use mathlib.Core.Option.{Option, none, some}
 use Prim.Native.Nat.{ℕ, _+_, _-_, _*_}
@@ -120,6 +120,10 @@ abbrev pub taskFrom : Task → Option PlanningTask
 taskFrom (StepTask s) = some (step s)
 taskFrom (JobTask j) = some (job j)
 taskFrom Nothing = none
+
+-- the task at place j of method m's body of n tasks, by the byte that it is kept as
+abbrev pub taskWith : (bodies : List ℕ) (steps methods n m j : ℕ) → Option PlanningTask
+taskWith bodies steps methods n m j = cond (ltb j n) (some (taskAt steps (cond (ltb m methods && ltb j 256) (getD bodies (m * 8 + j) 0) 0))) none
 
 -- the part of a name past the last: empty
 abbrev pub noPart : Part

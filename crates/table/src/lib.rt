@@ -2,15 +2,16 @@
 // know a table through the calls of `Table` alone, whose contracts speak of the table of `planning` that it holds (`tableFrom`).
 ghost use mathlib.Core.Path.{_≡_};
 ghost use mathlib.Core.Bool.{cond, _&&_};
-ghost use mathlib.Core.List.{[], _∷_};
+ghost use mathlib.Core.List.{[], _∷_, map};
 ghost use mathlib.Core.Option.{some};
 ghost use lib.Dec.{ltb};
 ghost use Prim.Native.Nat.{_+_, _*_, _≤_, _<_};
 ghost use lib.ListN.{length, getD, take, drop, getElem?};
+ghost use Rattle.lists.specs.List.{upTo};
 ghost use Rattle.bitset.specs.Set.{members};
 ghost use Rattle.planning.specs.Table.{stepOf, jobOf, bodyOf};
 ghost use Rattle.lines.specs.Part.{bytesAt};
-ghost use Rattle.table.specs.Layout.{tableFrom, namePartsFrom, taskAt, taskFrom, noTable, tableWith, partWith, noPart, Reads};
+ghost use Rattle.table.specs.Layout.{tableFrom, namePartsFrom, taskAt, taskFrom, taskWith, noTable, tableWith, partWith, noPart, Reads};
 use outline::Places;
 use outline::Shape;
 use outline::Spans;
@@ -244,6 +245,16 @@ fn task_at(steps: u8, k: u8) -> Task
     Task::Job((k - steps) as usize)
 }
 
+// The task at a place of method's body, which has n tasks; nothing where the body has no such place.
+fn task_in(bodies: &[u8], steps: u8, methods: u8, n: usize, method: usize, place: usize) -> Task
+    ensures { λ r. ⌜ taskFrom r ≡ taskWith (now (bodies .entry)) steps methods n method place ⌝ }
+{
+    if place >= n {
+        return Task::Nothing;
+    }
+    task_at(steps, body_byte(bodies, methods, method, place))
+}
+
 impl Table {
     // How many facts, steps, jobs and methods there are.
     pub fn facts(self) -> usize
@@ -327,13 +338,26 @@ impl Table {
         ensures { λ r. ⌜ taskFrom r ≡ getElem? (bodyOf (tableFrom self) method) place ⌝ }
     {
         let n = byte_below(&self.sizes, self.methods, method);
-        if place >= n {
-            return Task::Nothing;
-        }
-        task_at(
-            self.steps,
-            body_byte(&self.bodies, self.methods, method, place),
-        )
+        task_in(&self.bodies, self.steps, self.methods, n, method, place)
+    }
+
+    // All places of a method's body at once.
+    pub fn body(self, method: usize) -> [Task; 8]
+        ensures { λ r. ⌜ map taskFrom r ≡ map (getElem? (bodyOf (tableFrom self) method)) (upTo 8) ⌝ }
+    {
+        let s = self.steps;
+        let k = self.methods;
+        let n = byte_below(&self.sizes, k, method);
+        [
+            task_in(&self.bodies, s, k, n, method, 0),
+            task_in(&self.bodies, s, k, n, method, 1),
+            task_in(&self.bodies, s, k, n, method, 2),
+            task_in(&self.bodies, s, k, n, method, 3),
+            task_in(&self.bodies, s, k, n, method, 4),
+            task_in(&self.bodies, s, k, n, method, 5),
+            task_in(&self.bodies, s, k, n, method, 6),
+            task_in(&self.bodies, s, k, n, method, 7),
+        ]
     }
 
     // The names of fact, step and job i: the part of the table's file where each was declared; empty where there is none.
