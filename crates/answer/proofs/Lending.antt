@@ -10,7 +10,7 @@ use lib.Seq.{length-take-le}
 use Rattle.planning.specs.Table.{Table}
 use Rattle.planning.specs.Record.{records}
 use Rattle.table.specs.Layout.{namePartsFrom}
-use Rattle.nodes.specs.Nodes.{nodesOf}
+use Rattle.nodes.specs.Nodes.{recordsIn}
 use Rattle.nodes.specs.Tree.{met10}
 use Rattle.tree.specs.Words.{treeWords}
 use Rattle.shape.specs.Shape.{Indexed}
@@ -39,7 +39,7 @@ module _ (file : List ℕ) {T : Table} {p : Prepared} (h : IsPrepared file T p) 
   words : p .nodes * 5 ≡ length (treeWords (records T))
   words = omega (arith, h .nodes z, tree-length T)
 
-  module _ (tree values : List ℕ) {ix : List ℕ} (own : met10 T (nodesOf tree) ≡ true) (k : 5120 ≤ length tree) (l : 8191 ≤ length values) (x : Indexed T ix) where
+  module _ (tree values : List ℕ) {ix : List ℕ} (own : met10 T (recordsIn tree) ≡ true) (k : 5120 ≤ length tree) (l : 8191 ≤ length values) (x : Indexed T ix) where
     pub listable : Listable (p .table) file T ix (take (p .nodes * 5) tree) (take (p .variables) values)
     listable = record {
       indexed = x;

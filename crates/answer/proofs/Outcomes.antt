@@ -9,7 +9,7 @@ use Rattle.lists.proofs.Bool.{leb-in, and-off, leb-no}
 use Rattle.planning.specs.Table.{Table}
 use Rattle.planning.specs.Variable.{variables}
 use Rattle.planning.specs.Model.{bits}
-use Rattle.nodes.specs.Nodes.{nodesOf, lentIn}
+use Rattle.nodes.specs.Nodes.{recordsIn, lentIn}
 use Rattle.nodes.specs.Tree.{enoughTree}
 use Rattle.nodes.specs.declared.Node.{Node}
 use Rattle.nodes.proofs.Words.{lent-all}
@@ -91,8 +91,8 @@ module _ (file : List ℕ) (tree : List Node) (values text : List ℕ) where
     )
 
 -- All 1,024 records were lent ------------------------------------------------------------------------------------------------------------
-pub took-all : {T : Table} {lent : ℕ} {answer values values′ : List ℕ} {r : Taken} (words : List ℕ) → 5120 ≤ length words → 1024 ≤ lent → Took T (nodesOf words) answer values values′ r → Took T (lentIn lent words) answer values values′ r
+pub took-all : {T : Table} {lent : ℕ} {answer values values′ : List ℕ} {r : Taken} (words : List ℕ) → 5120 ≤ length words → 1024 ≤ lent → Took T (recordsIn words) answer values values′ r → Took T (lentIn lent words) answer values values′ r
 took-all {T} {lent} {answer} {values} {values′} {r} words k h t = subst (λ (tree : List Node). Took T tree answer values values′ r) (sym (lent-all words k h)) t
 
-pub showed-all : {file : List ℕ} {T : Table} {lent : ℕ} {values text text′ : List ℕ} {r : Listed} (words : List ℕ) → 5120 ≤ length words → 1024 ≤ lent → Showed file T (nodesOf words) values text text′ r → Showed file T (lentIn lent words) values text text′ r
+pub showed-all : {file : List ℕ} {T : Table} {lent : ℕ} {values text text′ : List ℕ} {r : Listed} (words : List ℕ) → 5120 ≤ length words → 1024 ≤ lent → Showed file T (recordsIn words) values text text′ r → Showed file T (lentIn lent words) values text text′ r
 showed-all {file} {T} {lent} {values} {text} {text′} {r} words k h t = subst (λ (tree : List Node). Showed file T tree values text text′ r) (sym (lent-all words k h)) t

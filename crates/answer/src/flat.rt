@@ -7,7 +7,7 @@ ghost use lib.ListN.{length};
 ghost use Rattle.lists.specs.List.{all};
 ghost use Rattle.planning.specs.Variable.{variables as variablesOf};
 ghost use Rattle.planning.specs.Accepted.{Accepted as AcceptedTable};
-ghost use Rattle.nodes.specs.Nodes.{nodesOf, lentIn};
+ghost use Rattle.nodes.specs.Nodes.{recordsIn, lentIn};
 ghost use Rattle.sheet.specs.Sheet.{tableIn};
 ghost use Rattle.questions.specs.Parts.{IsPrepared};
 ghost use Rattle.answer.specs.Calls.{takenFrom, taking, valuesAfter, listedFrom, showing, listingAfter};
@@ -26,7 +26,7 @@ fn take_values<'a, 'b, 'c>(
     values: &'c mut [u8],
 ) -> Taken
     requires { ⌜ AcceptedTable (tableIn (now ws)) × (n ≡ variablesOf (tableIn (now ws))) × (5120 ≤ length (now words)) × (8191 ≤ length (now values)) ⌝ }
-    ensures { λ r. ⌜ Took (tableIn (now (ws .entry))) (nodesOf (now (words .entry))) (now (answer .entry)) (now (values .entry)) (now (values .exit)) r ⌝ }
+    ensures { λ r. ⌜ Took (tableIn (now (ws .entry))) (recordsIn (now (words .entry))) (now (answer .entry)) (now (values .entry)) (now (values .exit)) r ⌝ }
 {
     let mut ix = [0u64; 24578];
     let m = questions::place(ws, words, &mut ix);
@@ -97,7 +97,7 @@ fn list_lines<'a, 'b, 'c, 'd>(
     text: &'d mut [u8],
 ) -> Listed
     requires { ⌜ IsPrepared (now file) (tableIn (now ws)) p × (p .question ≡ 0) × (5120 ≤ length (now words)) × (8191 ≤ length (now values)) × (24576 ≤ length (now text)) ⌝ }
-    ensures { λ r. ⌜ Showed (now (file .entry)) (tableIn (now (ws .entry))) (nodesOf (now (words .entry))) (now (values .entry)) (now (text .entry)) (now (text .exit)) r ⌝ }
+    ensures { λ r. ⌜ Showed (now (file .entry)) (tableIn (now (ws .entry))) (recordsIn (now (words .entry))) (now (values .entry)) (now (text .entry)) (now (text .exit)) r ⌝ }
 {
     let mut ix = [0u64; 24578];
     let m = questions::place(ws, words, &mut ix);

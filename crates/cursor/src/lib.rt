@@ -2,7 +2,7 @@
 // and `ix` its index.
 ghost use mathlib.Core.Path.{_≡_};
 ghost use Prim.Native.Nat.{_+_, _≤_, _<_};
-ghost use lib.ListN.{length, drop, getD};
+ghost use lib.ListN.{length, getD};
 ghost use Rattle.places.specs.Nest.{at};
 ghost use Rattle.places.specs.ClausePlace.{nodesIn, slotAt};
 ghost use Rattle.places.specs.Total.{sumTo, pairCount, widthsTo, bodyCount, passCount, nodeCount, effectCount, slotCount, countAt, clauseCount};

@@ -1,6 +1,6 @@
 -- What each call answers, question by question.
 -- By the definition of the calls.
-use mathlib.Core.Path.{_≡_, refl, sym, ap₂, _∙_, subst}
+use mathlib.Core.Path.{_≡_, refl, sym, ap, ap₂, _∙_, subst}
 use mathlib.Core.Bool.{true, false, _&&_}
 use mathlib.Core.List.{List, [], _∷_, _++_}
 use Prim.Native.Nat.{ℕ, _+_, _≤_, _<_}
@@ -16,8 +16,8 @@ use Rattle.planning.specs.Record.{records}
 use Rattle.planning.specs.Variable.{variables}
 use Rattle.planning.specs.Clause.{formula}
 use Rattle.planning.specs.Text.{written, bytesUsed, nextLine}
-use Rattle.nodes.specs.Nodes.{nodesOf, lentIn}
-use Rattle.nodes.specs.Tree.{enoughTree, met10}
+use Rattle.nodes.specs.Nodes.{wordsOf, recordsIn, lentIn}
+use Rattle.nodes.specs.Tree.{treeOf, enoughTree, met10}
 use Rattle.nodes.specs.declared.Node.{Node}
 use Rattle.nodes.proofs.Words.{lent-all, lent-enough}
 use Rattle.tree.specs.Words.{treeWords}
@@ -32,6 +32,7 @@ use Rattle.questions.specs.Questions.{turnedDown, taken}
 use Rattle.questions.specs.Parts.{IsPrepared}
 use Rattle.questions.specs.declared.Prepared.{Prepared}
 use Rattle.questions.proofs.Asked.{asked-short, asked-unmet, asked-met}
+use Rattle.questions.proofs.Compared.{tree-words}
 
 -- Questions 10 and 11 ----------------------------------------------------------------------------------------------------------
 first-10 : (T : Table) (tree : List Node) (line : ℕ) → met10 T tree ≡ false → firstUnmet (questionsWriting tree line T) ≡ 10
@@ -56,7 +57,7 @@ module _ (T : Table) (tree : List Node) (line : ℕ) {o : List ℕ} where
       }
 
 -- all 1,024 records were lent
-pub all-lent : {T : Table} {lent line : ℕ} {o o′ : List ℕ} {r : Text} (words : List ℕ) → 5120 ≤ length words → 1024 ≤ lent → Lined T (nodesOf words) line o o′ r → Lined T (lentIn lent words) line o o′ r
+pub all-lent : {T : Table} {lent line : ℕ} {o o′ : List ℕ} {r : Text} (words : List ℕ) → 5120 ≤ length words → 1024 ≤ lent → Lined T (recordsIn words) line o o′ r → Lined T (lentIn lent words) line o o′ r
 all-lent {T} {lent} {line} {o} {o′} {r} words k h l = subst (λ (tree : List Node). Lined T tree line o o′ r) (sym (lent-all words k h)) l
 
 -- The calls --------------------------------------------------------------------------------------------------------------------
@@ -74,7 +75,7 @@ module _ (file : List ℕ) (lent : ℕ) (words : List ℕ) where
   build-short h =
       let e : enoughTree (lentIn lent words) ≡ false = leb-no 1024 (length (lentIn lent words)) h in (
         sym (asked-short file (λ T. []) turnedDown (λ T. taken (nodes (rootPlace T) ∷ [])) e),
-        sym (asked-short file (λ T. []) (λ n. words) (λ T. treeWords (records T) ++ drop (length (treeWords (records T))) words) e),
+        sym (asked-short file (λ T. []) (λ n. words) (λ T. wordsOf (treeOf T) ++ drop (length (wordsOf (treeOf T))) words) e),
       )
 
   module _ (l : 5120 ≤ length words) (h : 1024 ≤ lent) {T : Table} {p : Prepared} (prepared : IsPrepared file T p) where
@@ -84,14 +85,14 @@ module _ (file : List ℕ) (lent : ℕ) (words : List ℕ) where
     pub build-unmet : (p .question ≡ 0 → ⊥) → (turnedDown (p .question) ≡ building file (lentIn lent words)) × (words ≡ wordsAfter file lent words)
     build-unmet u = (
       sym (asked-unmet file (λ T. []) turnedDown (λ T. taken (nodes (rootPlace T) ∷ [])) prepared tree-enough u),
-      sym (asked-unmet file (λ T. []) (λ n. words) (λ T. treeWords (records T) ++ drop (length (treeWords (records T))) words) prepared tree-enough u),
+      sym (asked-unmet file (λ T. []) (λ n. words) (λ T. wordsOf (treeOf T) ++ drop (length (wordsOf (treeOf T))) words) prepared tree-enough u),
     )
 
     pub build-met : {words′ : List ℕ} {r : ℕ} → p .question ≡ 0 → Wrote words 0 (treeWords (records T)) words′ r
         → (taken (p .nodes ∷ []) ≡ building file (lentIn lent words)) × (words′ ≡ wordsAfter file lent words)
     build-met {words′} {r} z w = (
       rw (prepared .nodes z) (sym (asked-met file (λ T. []) turnedDown (λ T. taken (nodes (rootPlace T) ∷ [])) prepared tree-enough z)),
-      wrote-whole w ∙ sym (asked-met file (λ T. []) (λ n. words) (λ T. treeWords (records T) ++ drop (length (treeWords (records T))) words) prepared tree-enough z),
+      wrote-whole w ∙ ap (λ (l : List ℕ). l ++ drop (length l) words) (tree-words (records T)) ∙ sym (asked-met file (λ T. []) (λ n. words) (λ T. wordsOf (treeOf T) ++ drop (length (wordsOf (treeOf T))) words) prepared tree-enough z),
     )
 
 module _ (file : List ℕ) (tree : List Node) (line : ℕ) (text : List ℕ) where

@@ -1,20 +1,24 @@
--- Inside the calls: building the tree, where the records are kept as words.
+-- The calls over words: what is left of a tree that was lent so.
 -- Assumes nothing.
+use mathlib.Core.Path.{_≡_}
 use mathlib.Core.List.{List, [], _++_}
 use Prim.Native.Nat.{ℕ}
 use lib.ListN.{length, drop}
-use Rattle.planning.specs.Record.{records}
-use Rattle.nodes.specs.Nodes.{lentIn}
-use Rattle.nodes.specs.Tree.{enoughTree}
-use Rattle.tree.specs.Words.{treeWords}
+use Rattle.nodes.specs.Nodes.{wordsOf, lentIn}
+use Rattle.nodes.specs.Tree.{treeOf, enoughTree}
 use Rattle.questions.specs.Questions.{asked}
+use Rattle.encoding.specs.Calls.{treeAfter}
 use Rattle.encoding.specs.declared.Built.{Built}
 use Rattle.encoding.specs.declared.Built.the-variants.{Refused, Nodes}
 
 -- the words of the table's records, and the others as they were; all of them on a refusal
 abbrev pub wordsAfter : (file : List ℕ) (lent : ℕ) (words : List ℕ) → List ℕ
 wordsAfter file lent words =
-    asked (enoughTree (lentIn lent words)) file (λ T. []) (λ n. words) (λ T. treeWords (records T) ++ drop (length (treeWords (records T))) words)
+    asked (enoughTree (lentIn lent words)) file (λ T. []) (λ n. words) (λ T. wordsOf (treeOf T) ++ drop (length (wordsOf (treeOf T))) words)
+
+-- what is left in the words are, as records, what the call over records leaves
+abbrev pub LeavesTheTree : Type 0
+LeavesTheTree = (file : List ℕ) (lent : ℕ) (words : List ℕ) → lentIn lent (wordsAfter file lent words) ≡ treeAfter file (lentIn lent words)
 
 -- how many records were built
 abbrev pub builtNodes : Built → ℕ

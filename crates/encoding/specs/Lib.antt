@@ -2,6 +2,7 @@
 --
 -- what each call answers and leaves
 pub mod Calls
--- inside: what the calls' parts say
+-- the calls over words
 pub mod Flat
+-- inside: what the calls' parts say
 pub mod Parts

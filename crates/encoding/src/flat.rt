@@ -5,7 +5,7 @@ ghost use Prim.Native.Nat.{_≤_};
 ghost use lib.ListN.{length};
 ghost use Rattle.planning.specs.Variable.{variables as variablesOf};
 ghost use Rattle.planning.specs.Accepted.{Accepted as AcceptedTable};
-ghost use Rattle.nodes.specs.Nodes.{nodesOf, lentIn};
+ghost use Rattle.nodes.specs.Nodes.{recordsIn, lentIn};
 ghost use Rattle.sheet.specs.Sheet.{tableIn};
 ghost use Rattle.encoding.specs.Calls.{builtFrom, building, textFrom, writing, textAfter};
 ghost use Rattle.encoding.specs.Flat.{wordsAfter};
@@ -41,7 +41,7 @@ fn write_lines<'a, 'b>(
     line: usize,
 ) -> Text
     requires { ⌜ AcceptedTable (tableIn (now ws)) × (variables ≡ variablesOf (tableIn (now ws))) × (5120 ≤ length (now words)) ⌝ }
-    ensures { λ r. ⌜ Lined (tableIn (now (ws .entry))) (nodesOf (now (words .entry))) line (now (text .entry)) (now (text .exit)) r ⌝ }
+    ensures { λ r. ⌜ Lined (tableIn (now (ws .entry))) (recordsIn (now (words .entry))) line (now (text .entry)) (now (text .exit)) r ⌝ }
 {
     let mut ix = [0u64; 24578];
     let m = questions::place(ws, words, &mut ix);

@@ -10,7 +10,7 @@ use lib.Seq.{drop-cons, set-at, append-snoc, take-suc, sets, sets-eq, take-at, d
 use Rattle.lists.specs.List.{from, upTo}
 use Rattle.lists.proofs.Every.{concatMap-append}
 use Rattle.nodes.specs.declared.Node.{Node}
-use Rattle.nodes.specs.Nodes.{blank, nodeWords, wordsOf, nodeAt, laid, gathered}
+use Rattle.nodes.specs.Nodes.{blank, nodeWords, wordsOf, recordAt, laid, gathered}
 
 -- Laid -------------------------------------------------------------------------------------------------------------------------------
 pub length-from : (k n : ℕ) → length (from k n) ≡ n
@@ -22,24 +22,24 @@ from-snoc k zero = let z : k + 0 ≡ k = omega arith in rw z
 from-snoc k (suc n) = let z : suc k + n ≡ k + suc n = omega arith in ap (λ (l : List ℕ). k ∷ l) (from-snoc (suc k) n ∙ rw z)
 
 module _ (fs : List ℕ) (ns : List Node) where
-  length-front : (n : ℕ) → length (map (nodeAt fs) (upTo n)) ≡ n
-  length-front n = length-map (upTo n) (nodeAt fs) ∙ length-from 0 n
+  length-front : (n : ℕ) → length (map (recordAt fs) (upTo n)) ≡ n
+  length-front n = length-map (upTo n) (recordAt fs) ∙ length-from 0 n
 
   pub laid-none : laid fs ns 0 ≡ ns
   unfolding laid
   laid-none = refl
 
-  pub laid-more : (i : ℕ) → i < length ns → set (laid fs ns i) i (nodeAt fs i) ≡ laid fs ns (i + 1)
+  pub laid-more : (i : ℕ) → i < length ns → set (laid fs ns i) i (recordAt fs i) ≡ laid fs ns (i + 1)
   unfolding laid
   laid-more i h =
       let s : upTo (suc i) ≡ upTo i ++ (i ∷ []) = from-snoc 0 i ∙ ap (λ (k : ℕ). upTo i ++ (k ∷ [])) (zero-add i) in
       rw (add-one i, drop-cons ns i blank)
-      (set-at (map (nodeAt fs) (upTo i)) _ (drop (suc i) ns) (nodeAt fs i) i (length-front i)
-      ∙ sym (ap (λ (l : List ℕ). map (nodeAt fs) l ++ drop (suc i) ns) s ∙ ap (λ (l : List Node). l ++ drop (suc i) ns) (map-append (nodeAt fs) (upTo i) (i ∷ [])) ∙ append-snoc (map (nodeAt fs) (upTo i)) (nodeAt fs i) (drop (suc i) ns)))
+      (set-at (map (recordAt fs) (upTo i)) _ (drop (suc i) ns) (recordAt fs i) i (length-front i)
+      ∙ sym (ap (λ (l : List ℕ). map (recordAt fs) l ++ drop (suc i) ns) s ∙ ap (λ (l : List Node). l ++ drop (suc i) ns) (map-append (recordAt fs) (upTo i) (i ∷ [])) ∙ append-snoc (map (recordAt fs) (upTo i)) (recordAt fs i) (drop (suc i) ns)))
 
   pub length-laid : (n : ℕ) → n ≤ length ns → length (laid fs ns n) ≡ length ns
   unfolding laid
-  length-laid n h = length-append (map (nodeAt fs) (upTo n)) (drop n ns) ∙ omega (arith, length-front n, length-drop n ns)
+  length-laid n h = length-append (map (recordAt fs) (upTo n)) (drop n ns) ∙ omega (arith, length-front n, length-drop n ns)
 
 -- Gathered ---------------------------------------------------------------------------------------------------------------------------
 -- the words of a record, stored one by one from place a on
@@ -79,7 +79,7 @@ module _ (l : List ℕ) (a : ℕ) (n : Node) where
   pub length-stored4 : length stored4 ≡ length l
   length-stored4 = length-set stored3 (a + 3) (n .steps) ∙ length-stored3
 
-five : (ns : List Node) → length (wordsOf ns) ≡ length ns * 5
+pub five : (ns : List Node) → length (wordsOf ns) ≡ length ns * 5
 five [] = refl
 five (n ∷ ns) = omega (arith, five ns)
 

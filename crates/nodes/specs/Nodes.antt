@@ -20,12 +20,12 @@ abbrev pub wordsOf : List Node → List ℕ
 wordsOf ns = concatMap nodeWords ns
 
 -- record i of those kept as words
-abbrev pub nodeAt : List ℕ → ℕ → Node
-nodeAt fs i = record { depth = getD fs (i * 5) 0; parent = getD fs (i * 5 + 1) 0; children = getD fs (i * 5 + 2) 0; steps = getD fs (i * 5 + 3) 0; jobs = getD fs (i * 5 + 4) 0 }
+abbrev pub recordAt : List ℕ → ℕ → Node
+recordAt fs i = record { depth = getD fs (i * 5) 0; parent = getD fs (i * 5 + 1) 0; children = getD fs (i * 5 + 2) 0; steps = getD fs (i * 5 + 3) 0; jobs = getD fs (i * 5 + 4) 0 }
 
 -- the first n records from words, and the others as they were
 unfoldable pub laid : List ℕ → List Node → ℕ → List Node
-laid fs ns n = map (nodeAt fs) (upTo n) ++ drop n ns
+laid fs ns n = map (recordAt fs) (upTo n) ++ drop n ns
 
 -- how many of the n records lent a call gathers: as many as it wants, or none where they are too few
 unfoldable pub heldOf : ℕ → ℕ
@@ -40,8 +40,8 @@ abbrev pub lentWords : List Node → List ℕ
 lentWords ns = gathered ns (replicate 5120 0) (heldOf (length ns))
 
 -- the 1,024 records in words, and the first k of them; none where the words are too few
-unfoldable pub nodesOf : List ℕ → List Node
-nodesOf fs = map (nodeAt fs) (upTo 1024)
+unfoldable pub recordsIn : List ℕ → List Node
+recordsIn fs = map (recordAt fs) (upTo 1024)
 
 unfoldable pub lentIn : ℕ → List ℕ → List Node
-lentIn k fs = cond (ltb (length fs) 5120) [] (take k (nodesOf fs))
+lentIn k fs = cond (ltb (length fs) 5120) [] (take k (recordsIn fs))

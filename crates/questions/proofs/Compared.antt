@@ -24,7 +24,7 @@ use Rattle.places.specs.Lookup.{noRecord}
 use Rattle.index.specs.Index.{indexOf}
 use Rattle.index.proofs.Blocks.{length-fives}
 use Rattle.index.proofs.Known.{set-length}
-use Rattle.nodes.specs.Nodes.{nodeWords, wordsOf, nodesOf}
+use Rattle.nodes.specs.Nodes.{wordsOf, recordsIn}
 use Rattle.nodes.specs.Tree.{setWord, nodeOf, treeOf, met10}
 use Rattle.nodes.proofs.Words.{nodes-words, length-nodes}
 use Rattle.nodes.proofs.Same.{words-same}
@@ -80,14 +80,14 @@ abbrev ownWords : Table → List ℕ → Bool
 ownWords T tree = all (λ i. eqb (getD tree i 0) (getD (treeWords (records T)) i 0)) (upTo (length (treeWords (records T))))
 
 -- that is question 10, put to the records in these words
-pub own-words : (T : Table) → Accepted T → (tree : List ℕ) → 5120 ≤ length tree → ownWords T tree ≡ met10 T (nodesOf tree)
+pub own-words : (T : Table) → Accepted T → (tree : List ℕ) → 5120 ≤ length tree → ownWords T tree ≡ met10 T (recordsIn tree)
 own-words T a tree h =
     let n : length (treeOf T) ≡ nodes (rootPlace T) = length-map (records T) nodeOf ∙ records-count T in
     let z : length (treeWords (records T)) ≡ length (treeOf T) * 5 = omega (arith, tree-length T, n) in
     ap (λ (k : ℕ). all (λ i. eqb (getD tree i 0) (getD (treeWords (records T)) i 0)) (upTo k)) z
-    ∙ all-below (λ i. eqb (getD tree i 0) (getD (treeWords (records T)) i 0)) (λ i. eqb (getD (wordsOf (nodesOf tree)) i 0) (getD (wordsOf (treeOf T)) i 0)) 0 (length (treeOf T) * 5)
+    ∙ all-below (λ i. eqb (getD tree i 0) (getD (treeWords (records T)) i 0)) (λ i. eqb (getD (wordsOf (recordsIn tree)) i 0) (getD (wordsOf (treeOf T)) i 0)) 0 (length (treeOf T) * 5)
     (λ i k l. ap₂ eqb (sym (getD-take 5120 tree i 0 (omega (arith, n, a .few-nodes))) ∙ ap (λ (ws : List ℕ). getD ws i 0) (sym (nodes-words tree h))) (ap (λ (ws : List ℕ). getD ws i 0) (tree-words (records T))))
-    ∙ words-same (length (treeOf T)) (nodesOf tree) (treeOf T) (omega (arith, n, a .few-nodes, length-nodes tree)) (omega arith)
+    ∙ words-same (length (treeOf T)) (recordsIn tree) (treeOf T) (omega (arith, n, a .few-nodes, length-nodes tree)) (omega arith)
 
 module _ (T : Table) (tree : List ℕ) {o o′ : List ℕ} {n : ℕ} (w : Wrote o 0 (treeWords (records T)) o′ n) where
   -- the comparison with what was written

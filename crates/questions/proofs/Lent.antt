@@ -14,7 +14,7 @@ use Rattle.lists.proofs.Order.{le-or-lt}
 use Rattle.planning.specs.Table.{Table}
 use Rattle.planning.specs.Record.{records}
 use Rattle.planning.proofs.Record.{records-count}
-use Rattle.nodes.specs.Nodes.{blank, heldOf, gathered, nodesOf, lentIn}
+use Rattle.nodes.specs.Nodes.{blank, heldOf, gathered, recordsIn, lentIn}
 use Rattle.nodes.specs.Tree.{nodeOf, treeOf, enoughTree, sameNode, met10}
 use Rattle.nodes.specs.declared.Node.{Node}
 use Rattle.nodes.proofs.Laws.{length-gathered}
@@ -42,7 +42,7 @@ module _ (tree : List Node) (fs : List ℕ) (enough : 5120 ≤ length fs) where
   seen-all : 1024 ≤ length tree → seen tree fs ≡ take 1024 tree
   seen-all h =
       lent-all (gathered tree fs (heldOf (length tree))) seen-words h
-      ∙ ap (λ (k : ℕ). nodesOf (gathered tree fs k)) (held-all h) ∙ gathered-nodes tree fs h
+      ∙ ap (λ (k : ℕ). recordsIn (gathered tree fs k)) (held-all h) ∙ gathered-nodes tree fs h
 
   pub seen-enough : enoughTree (seen tree fs) ≡ enoughTree tree
   seen-enough = go (le-or-lt 1024 (length tree))

@@ -5,7 +5,7 @@ ghost use Prim.Native.Nat.{_+_, _≤_, _<_};
 ghost use lib.ListN.{length};
 ghost use Rattle.planning.specs.Accepted.{Accepted as AcceptedTable};
 ghost use Rattle.sheet.specs.Sheet.{sheetSize, tableIn};
-ghost use Rattle.nodes.specs.Nodes.{nodesOf};
+ghost use Rattle.nodes.specs.Nodes.{recordsIn};
 ghost use Rattle.tree.specs.Visit.{Known};
 ghost use Rattle.questions.specs.Parts.{Measured, IsPrepared, Placed};
 use table::Table;
@@ -82,7 +82,7 @@ pub fn prepare(file: &[u8], ws: &mut [u64]) -> Prepared
 // Question 10 to the records in these words, and the index of the table: how many words it has, or 0 where the question is not met. What ix holds past them is left free.
 pub fn place<'a, 'b>(ws: &'a [u64], tree: &'a [u64], ix: &'b mut [u64]) -> usize
     requires { ⌜ AcceptedTable (tableIn (now ws)) × (5120 ≤ length (now tree)) × (24578 ≤ length (now ix)) ⌝ }
-    ensures { λ r. ⌜ Placed (tableIn (now (ws .entry))) (nodesOf (now (tree .entry))) (now (ix .exit)) r ⌝ }
+    ensures { λ r. ⌜ Placed (tableIn (now (ws .entry))) (recordsIn (now (tree .entry))) (now (ix .exit)) r ⌝ }
 {
     let mut words = [0u64; 5120];
     let n = tree::build(ws, &mut words);

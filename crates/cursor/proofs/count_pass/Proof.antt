@@ -2,11 +2,10 @@ use borrow.Author.Needs.{needs}
 use Rattle.cursor.proofs.count_pass.Statement.{statement}
 use Rattle.cursor.proofs.count_pass.Tie as tie
 use native.Mathlib.Omega.{arith}
-use mathlib.Core.Path.{_≡_, sym, _∙_}
-use Prim.Native.Nat.{ℕ, _-_, _+_, _≤_}
+use mathlib.Core.Path.{sym, _∙_}
 use Rattle.sheet.specs.Sheet.{tableIn}
 use Rattle.shape.specs.Shape.{node}
-use Rattle.cursor.proofs.Counts.{pass-none, pass-some, passed}
+use Rattle.cursor.proofs.Counts.{pass-none, passed}
 
 children-of-requires : tie.Need-children-of-requires
 children-of-requires c κs = search needs

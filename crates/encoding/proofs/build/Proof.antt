@@ -38,7 +38,7 @@ use denote.Lend.{Held, lends-slice, slice-back, lends-shr-slice}
 use denote.Index.{row, whole-in, whole-out}
 use denote.Steps.{only, owned, peeks, heard, nothing}
 use denote.Enum.Laws as EL
-use denote.Triple.Entry.{Vals, onEntry}
+use denote.Triple.Entry.{onEntry}
 use denote.Triple.Statement.{Contract, Triple}
 use denote.Triple.Call.{calls-at}
 use denote.Triple.Clauses.{ensured, lasts}
@@ -58,7 +58,7 @@ use Rattle.nodes.proofs.scatter.Met as scatter-thm
 use Rattle.encoding.specs.declared.Built.{Built}
 use Rattle.encoding.specs.Calls.{builtFrom, building, treeAfter}
 use Rattle.encoding.specs.Flat.{wordsAfter, builtNodes}
-use Rattle.encoding.proofs.Laying.{Lays, lays}
+use Rattle.encoding.proofs.Laying.{lays}
 use Rattle.encoding.proofs.Built as E
 use Rattle.encoding.proofs.Built.Laws as E′
 use Rattle.encoding.proofs.nodes_of as nodes-of

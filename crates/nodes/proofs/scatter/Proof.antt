@@ -46,7 +46,7 @@ use denote.Triple.Walked.{says, needs, Stays, stay-slice, stay-dropped, walkOf, 
 use denote.Exit.{yes}
 use denote.Signature.{plain, shrSliceOf}
 use Rattle.nodes.specs.declared.Node.{Node}
-use Rattle.nodes.specs.Nodes.{blank, nodeAt, laid}
+use Rattle.nodes.specs.Nodes.{blank, recordAt, laid}
 use Rattle.nodes.proofs.Walk.{typeOf, head, after, inside}
 use Rattle.nodes.proofs.Laws.{laid-none, laid-more, length-laid}
 use Rattle.nodes.proofs.Node as T
@@ -161,8 +161,8 @@ module _ {M : Type 1} (𝓤 : URA M) (H : Heap 𝓤) (A : Atoms 𝓤) (W : Given
       move ! (2 ∷ 0 ∷ []) $ use2 W (raw (NodeAt 𝓤 H A mem run .pre (to i))) (asked i h) $ frame ! $ done !
 
   -- of the callee's `ensured`, the clause alone
-  said : (i : ℕ) (r : Node) → ent 𝓤 (ensured 𝓤 H A node-at.ended (node-at.clauses 𝓤 H A mem run) (κ′, tt) (d, (i, tt)) tt r) (fact 𝓤 (r ≡ nodeAt fs i))
-  said i r = exE 𝓤 _ (λ ws. snd∗ 𝓤 (sem 𝓤 H A (lasts node-at.ended (κ′, tt) (d, (i, tt)) ws)) (fact 𝓤 (r ≡ nodeAt fs i)))
+  said : (i : ℕ) (r : Node) → ent 𝓤 (ensured 𝓤 H A node-at.ended (node-at.clauses 𝓤 H A mem run) (κ′, tt) (d, (i, tt)) tt r) (fact 𝓤 (r ≡ recordAt fs i))
+  said i r = exE 𝓤 _ (λ ws. snd∗ 𝓤 (sem 𝓤 H A (lasts node-at.ended (κ′, tt) (d, (i, tt)) ws)) (fact 𝓤 (r ≡ recordAt fs i)))
 
   module _ (𝓣 : Tables 𝓤 H) (known : Triple 𝓤 (𝓣 .C #node-at) (NodeAt 𝓤 H A mem run)) (p : Is (B κ) (x ys) (s ∷ [])) (h : (n < 65536) × (n ≤ length ys) × (n * 5 ≤ length fs)) (l₀ l₁ l₂ l₃ l₄ l₅ l₆ l₇ l₈ : ℕ) where
     abbrev C : Calls 𝓤 H
@@ -214,7 +214,7 @@ module _ {M : Type 1} (𝓤 : URA M) (H : Heap 𝓤) (A : Atoms 𝓤) (W : Given
         -- [what the callee asks; flat's; the row; the open borrow; obs; auth; _8; …; _7; …; _6; …; _5; …; _4; …; _3; …; _2; …; _1; …; _0; …]
         calls-at ! (fmOf 𝓤 H (W .laws) 𝓣) (NodeAt 𝓤 H A mem run) known (to (i .0)) (and-then ! (load ! (from ! (stop !)) (look ! 18 refl)) (and-then ! (load ! (from ! (stop !)) (look ! 14 refl)) (no-more !))) (λ u.
         use1 W (later (some (λ (r : Node). ((‵ (flft κ′ q′) ⊛ ‵ ftrue) ⊛ ‵ (R .own r (u ∷ []))) ⊛ raw (ensured 𝓤 H A node-at.ended (node-at.clauses 𝓤 H A mem run) (κ′, tt) (d, (i .0, tt)) tt r)))) (id⊢ 𝓤 _) $ await ! tt $ pick ! (λ r.
-        split ! $ move ! (1 ∷ []) $ use1 W (raw (fact 𝓤 (r ≡ nodeAt fs (i .0)))) (said (i .0) r) $ heard ! (r ≡ nodeAt fs (i .0)) (λ e. split ! $ move ! (1 ∷ []) $
+        split ! $ move ! (1 ∷ []) $ use1 W (raw (fact 𝓤 (r ≡ recordAt fs (i .0)))) (said (i .0) r) $ heard ! (r ≡ recordAt fs (i .0)) (λ e. split ! $ move ! (1 ∷ []) $
         -- [what the result owns; the token; flat's; the row; the open borrow; obs; auth; _8; …]
         peeks ! R (Is R) (shows 𝓤 H A R) r (u ∷ []) (λ is. land ! (from ! (stop !)) (init ! 11 refl (LL.lawful T.the-type T′.the-laws 𝓤 H A W .typed r (u ∷ []) is .0)) $
         assigns ! (bin ! (load ! (from ! (stop !)) (look ! 15 refl)) (lit ! tt) (record { fits = fit i })) (from ! (stop !)) (init ! 9 refl (tt, record { fits = fit i })) $

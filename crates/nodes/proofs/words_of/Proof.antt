@@ -47,7 +47,7 @@ use denote.Triple.Walked.{says, Stays, stay-dropped, walkOf, goes-dropped, Walks
 use denote.Exit.{yes}
 use denote.Signature.{plain, shrSliceOf}
 use Rattle.nodes.specs.declared.Node.{Node}
-use Rattle.nodes.specs.Nodes.{heldOf, gathered, lentWords}
+use Rattle.nodes.specs.Nodes.{heldOf, gathered}
 use Rattle.nodes.proofs.Walk.{big-lit}
 use Rattle.nodes.proofs.Words.{held-room}
 use Rattle.nodes.proofs.Node as N

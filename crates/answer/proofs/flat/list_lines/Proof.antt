@@ -5,7 +5,7 @@ use native.Mathlib.Omega.{arith}
 use mathlib.Core.Path.{sym}
 use lib.Dec.{lit≤}
 use lib.Seq.{length-take-le}
-use Rattle.nodes.specs.Nodes.{nodesOf}
+use Rattle.nodes.specs.Nodes.{recordsIn}
 use Rattle.sheet.specs.Sheet.{tableIn}
 use Rattle.answer.proofs.Lending.{few-values, few-nodes, own-names, listable}
 use Rattle.answer.proofs.Showing.{other-tree, not-binary, not-model, showed}
@@ -17,7 +17,7 @@ place-requires : tie.Need-place-requires
 place-requires c κs = (c .before .before .before .before .before .before .pre .0 .accepted (c .before .before .before .before .before .before .pre .1), c .before .before .before .before .before .before .pre .2, lit≤ tt)
 
 returns : tie.Need-returns
-returns c = other-tree (c .before .before .before .before .before .before .before .before .before .args .file .now) (tableIn (c .before .before .before .before .before .before .before .before .before .args .ws .now)) (nodesOf (c .before .before .before .before .before .before .before .before .before .args .words .now)) (c .before .before .before .before .before .before .before .before .before .args .values .now) (c .before .before .before .before .before .before .before .before .before .args .text .now) (c .before .before .place .ensures .unmet (c .if1 .taken))
+returns c = other-tree (c .before .before .before .before .before .before .before .before .before .args .file .now) (tableIn (c .before .before .before .before .before .before .before .before .before .args .ws .now)) (recordsIn (c .before .before .before .before .before .before .before .before .before .args .words .now)) (c .before .before .before .before .before .before .before .before .before .args .values .now) (c .before .before .before .before .before .before .before .before .before .args .text .now) (c .before .before .place .ensures .unmet (c .if1 .taken))
 
 slice-aggregate-are-binary : tie.Need-slice-aggregate-are-binary
 slice-aggregate-are-binary c = sym (length-take-le _ _ (omega (arith, few-values (c .before .before .before .before .before .before .before .before .before .before .args .file .now) (c .before .before .before .before .before .before .before .before .before .before .pre .0) (c .before .before .before .before .before .before .before .before .before .before .pre .1), c .before .before .before .before .before .before .before .before .before .before .pre .3)))
@@ -26,7 +26,7 @@ are-binary-requires : tie.Need-are-binary-requires
 are-binary-requires c κs = search needs
 
 returns-2 : tie.Need-returns-2
-returns-2 c = not-binary (c .before .before .before .before .before .before .before .before .before .before .before .before .args .file .now) (tableIn (c .before .before .before .before .before .before .before .before .before .before .before .before .args .ws .now)) (nodesOf (c .before .before .before .before .before .before .before .before .before .before .before .before .args .words .now)) (c .before .before .before .before .before .before .before .before .before .before .before .before .args .values .now) (c .before .before .before .before .before .before .before .before .before .before .before .before .args .text .now) (c .before .before .before .before .before .place .ensures .met (c .before .before .before .if1 .left)) (c .before .before .before .before .before .before .before .before .before .before .before .before .pre .0 .variables (c .before .before .before .before .before .before .before .before .before .before .before .before .pre .1)) (c .before .are-binary .ensures) (c .if2 .taken)
+returns-2 c = not-binary (c .before .before .before .before .before .before .before .before .before .before .before .before .args .file .now) (tableIn (c .before .before .before .before .before .before .before .before .before .before .before .before .args .ws .now)) (recordsIn (c .before .before .before .before .before .before .before .before .before .before .before .before .args .words .now)) (c .before .before .before .before .before .before .before .before .before .before .before .before .args .values .now) (c .before .before .before .before .before .before .before .before .before .before .before .before .args .text .now) (c .before .before .before .before .before .place .ensures .met (c .before .before .before .if1 .left)) (c .before .before .before .before .before .before .before .before .before .before .before .before .pre .0 .variables (c .before .before .before .before .before .before .before .before .before .before .before .before .pre .1)) (c .before .are-binary .ensures) (c .if2 .taken)
 
 array-share-prefix-ix : tie.Need-array-share-prefix-ix
 array-share-prefix-ix c = search needs
@@ -41,7 +41,7 @@ is-model-requires : tie.Need-is-model-requires
 is-model-requires c κs = c .before .before .before .before .before .before .before .place .ensures .index (c .before .before .before .before .before .if1 .left)
 
 returns-3 : tie.Need-returns-3
-returns-3 c = not-model (c .before .before .before .before .before .before .before .before .before .before .before .before .before .before .before .before .args .file .now) (tableIn (c .before .before .before .before .before .before .before .before .before .before .before .before .before .before .before .before .args .ws .now)) (nodesOf (c .before .before .before .before .before .before .before .before .before .before .before .before .before .before .before .before .args .words .now)) (c .before .before .before .before .before .before .before .before .before .before .before .before .before .before .before .before .args .values .now) (c .before .before .before .before .before .before .before .before .before .before .before .before .before .before .before .before .args .text .now) (c .before .before .before .before .before .before .before .before .before .place .ensures .met (c .before .before .before .before .before .before .before .if1 .left)) (c .before .before .before .before .before .before .before .before .before .before .before .before .before .before .before .before .pre .0 .variables (c .before .before .before .before .before .before .before .before .before .before .before .before .before .before .before .before .pre .1)) (c .before .before .before .before .before .are-binary .ensures) (c .before .before .before .before .if2 .left) (c .before .is-model .ensures) (c .if3 .taken)
+returns-3 c = not-model (c .before .before .before .before .before .before .before .before .before .before .before .before .before .before .before .before .args .file .now) (tableIn (c .before .before .before .before .before .before .before .before .before .before .before .before .before .before .before .before .args .ws .now)) (recordsIn (c .before .before .before .before .before .before .before .before .before .before .before .before .before .before .before .before .args .words .now)) (c .before .before .before .before .before .before .before .before .before .before .before .before .before .before .before .before .args .values .now) (c .before .before .before .before .before .before .before .before .before .before .before .before .before .before .before .before .args .text .now) (c .before .before .before .before .before .before .before .before .before .place .ensures .met (c .before .before .before .before .before .before .before .if1 .left)) (c .before .before .before .before .before .before .before .before .before .before .before .before .before .before .before .before .pre .0 .variables (c .before .before .before .before .before .before .before .before .before .before .before .before .before .before .before .before .pre .1)) (c .before .before .before .before .before .are-binary .ensures) (c .before .before .before .before .if2 .left) (c .before .is-model .ensures) (c .if3 .taken)
 
 mul-k : tie.Need-mul-k
 mul-k c = omega (arith, few-nodes (c .before .before .before .before .before .before .before .before .before .before .before .before .before .before .before .before .before .before .args .file .now) (c .before .before .before .before .before .before .before .before .before .before .before .before .before .before .before .before .before .before .pre .0) (c .before .before .before .before .before .before .before .before .before .before .before .before .before .before .before .before .before .before .pre .1))
@@ -65,7 +65,7 @@ same-length : tie.Need-same-length
 same-length c = search needs
 
 returns-4 : tie.Need-returns-4
-returns-4 c = showed (c .before .before .before .before .before .before .before .before .before .before .before .before .before .before .before .before .before .before .before .before .before .before .before .before .before .args .file .now) (tableIn (c .before .before .before .before .before .before .before .before .before .before .before .before .before .before .before .before .before .before .before .before .before .before .before .before .before .args .ws .now)) (nodesOf (c .before .before .before .before .before .before .before .before .before .before .before .before .before .before .before .before .before .before .before .before .before .before .before .before .before .args .words .now)) (c .before .before .before .before .before .before .before .before .before .before .before .before .before .before .before .before .before .before .before .before .before .before .before .before .before .args .values .now) (c .before .before .before .before .before .before .before .before .before .before .before .before .before .before .before .before .before .before .before .before .before .before .before .before .before .args .text .now) (c .before .before .before .before .before .before .before .before .before .before .before .before .before .before .before .before .before .before .place .ensures .met (c .before .before .before .before .before .before .before .before .before .before .before .before .before .before .before .before .if1 .left)) (c .before .before .before .before .before .before .before .before .before .before .before .before .before .before .before .before .before .before .before .before .before .before .before .before .before .pre .0 .variables (c .before .before .before .before .before .before .before .before .before .before .before .before .before .before .before .before .before .before .before .before .before .before .before .before .before .pre .1)) (c .before .before .before .before .before .before .before .before .before .before .before .before .before .before .are-binary .ensures) (c .before .before .before .before .before .before .before .before .before .before .before .before .before .if2 .left) (c .before .before .before .before .before .before .before .before .before .before .is-model .ensures) (c .before .before .before .before .before .before .before .before .before .if3 .left) (c .before .before .before .before .before .before .before .before .before .before .before .before .before .before .before .before .before .before .before .before .before .before .before .before .before .pre .0 .accepted (c .before .before .before .before .before .before .before .before .before .before .before .before .before .before .before .before .before .before .before .before .before .before .before .before .before .pre .1)) (c .before .before .before .before .before .before .before .before .before .before .before .before .before .before .before .before .before .before .before .before .before .before .before .before .before .pre .3) (own-names (c .before .before .before .before .before .before .before .before .before .before .before .before .before .before .before .before .before .before .before .before .before .before .before .before .before .args .file .now) (c .before .before .before .before .before .before .before .before .before .before .before .before .before .before .before .before .before .before .before .before .before .before .before .before .before .pre .0) (c .before .before .before .before .before .before .before .before .before .before .before .before .before .before .before .before .before .before .before .before .before .before .before .before .before .pre .1)) (c .before .before .write .ensures)
+returns-4 c = showed (c .before .before .before .before .before .before .before .before .before .before .before .before .before .before .before .before .before .before .before .before .before .before .before .before .before .args .file .now) (tableIn (c .before .before .before .before .before .before .before .before .before .before .before .before .before .before .before .before .before .before .before .before .before .before .before .before .before .args .ws .now)) (recordsIn (c .before .before .before .before .before .before .before .before .before .before .before .before .before .before .before .before .before .before .before .before .before .before .before .before .before .args .words .now)) (c .before .before .before .before .before .before .before .before .before .before .before .before .before .before .before .before .before .before .before .before .before .before .before .before .before .args .values .now) (c .before .before .before .before .before .before .before .before .before .before .before .before .before .before .before .before .before .before .before .before .before .before .before .before .before .args .text .now) (c .before .before .before .before .before .before .before .before .before .before .before .before .before .before .before .before .before .before .place .ensures .met (c .before .before .before .before .before .before .before .before .before .before .before .before .before .before .before .before .if1 .left)) (c .before .before .before .before .before .before .before .before .before .before .before .before .before .before .before .before .before .before .before .before .before .before .before .before .before .pre .0 .variables (c .before .before .before .before .before .before .before .before .before .before .before .before .before .before .before .before .before .before .before .before .before .before .before .before .before .pre .1)) (c .before .before .before .before .before .before .before .before .before .before .before .before .before .before .are-binary .ensures) (c .before .before .before .before .before .before .before .before .before .before .before .before .before .if2 .left) (c .before .before .before .before .before .before .before .before .before .before .is-model .ensures) (c .before .before .before .before .before .before .before .before .before .if3 .left) (c .before .before .before .before .before .before .before .before .before .before .before .before .before .before .before .before .before .before .before .before .before .before .before .before .before .pre .0 .accepted (c .before .before .before .before .before .before .before .before .before .before .before .before .before .before .before .before .before .before .before .before .before .before .before .before .before .pre .1)) (c .before .before .before .before .before .before .before .before .before .before .before .before .before .before .before .before .before .before .before .before .before .before .before .before .before .pre .3) (own-names (c .before .before .before .before .before .before .before .before .before .before .before .before .before .before .before .before .before .before .before .before .before .before .before .before .before .args .file .now) (c .before .before .before .before .before .before .before .before .before .before .before .before .before .before .before .before .before .before .before .before .before .before .before .before .before .pre .0) (c .before .before .before .before .before .before .before .before .before .before .before .before .before .before .before .before .before .before .before .before .before .before .before .before .before .pre .1)) (c .before .before .write .ensures)
 
 pub list-lines-spec : {M : Type 1} → statement M
 list-lines-spec =

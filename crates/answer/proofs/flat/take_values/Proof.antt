@@ -5,7 +5,7 @@ use native.Mathlib.Omega.{arith}
 use mathlib.Core.Path.{sym}
 use lib.Seq.{length-take-le}
 use Rattle.lists.proofs.Written.{wrote-whole}
-use Rattle.nodes.specs.Nodes.{nodesOf}
+use Rattle.nodes.specs.Nodes.{recordsIn}
 use Rattle.sheet.specs.Sheet.{tableIn}
 use Rattle.answer.proofs.Taking.{other-tree, not-heard, not-model, took, heard-by, copy-room}
 
@@ -16,7 +16,7 @@ place-requires : tie.Need-place-requires
 place-requires c κs = search needs
 
 returns : tie.Need-returns
-returns c = other-tree (tableIn (c .before .before .before .before .before .before .before .before .args .ws .now)) (nodesOf (c .before .before .before .before .before .before .before .before .args .words .now)) (c .before .before .before .before .before .before .before .before .args .answer .now) (c .before .before .before .before .before .before .before .before .args .values .now) (c .before .before .place .ensures .unmet (c .if1 .taken))
+returns c = other-tree (tableIn (c .before .before .before .before .before .before .before .before .args .ws .now)) (recordsIn (c .before .before .before .before .before .before .before .before .args .words .now)) (c .before .before .before .before .before .before .before .before .args .answer .now) (c .before .before .before .before .before .before .before .before .args .values .now) (c .before .before .place .ensures .unmet (c .if1 .taken))
 
 slice-aggregate-read : tie.Need-slice-aggregate-read
 slice-aggregate-read c = search needs
@@ -25,7 +25,7 @@ read-requires : tie.Need-read-requires
 read-requires c κs = (omega (arith, c .before .before .before .before .before .before .before .before .before .pre .1, c .before .before .before .before .before .before .before .before .before .pre .0 .few-variables))
 
 returns-2 : tie.Need-returns-2
-returns-2 c = not-heard (tableIn (c .before .before .before .before .before .before .before .before .before .before .before .before .args .ws .now)) (nodesOf (c .before .before .before .before .before .before .before .before .before .before .before .before .args .words .now)) (c .before .before .before .before .before .before .before .before .before .before .before .before .args .answer .now) (c .before .before .before .before .before .before .before .before .before .before .before .before .args .values .now) (c .before .before .before .before .before .before .place .ensures .met (c .before .before .before .before .if1 .left)) (c .before .before .before .before .before .before .before .before .before .before .before .before .pre .1) (heard-by (c .before .before .read .ensures)) (c .if2 .taken)
+returns-2 c = not-heard (tableIn (c .before .before .before .before .before .before .before .before .before .before .before .before .args .ws .now)) (recordsIn (c .before .before .before .before .before .before .before .before .before .before .before .before .args .words .now)) (c .before .before .before .before .before .before .before .before .before .before .before .before .args .answer .now) (c .before .before .before .before .before .before .before .before .before .before .before .before .args .values .now) (c .before .before .before .before .before .before .place .ensures .met (c .before .before .before .before .if1 .left)) (c .before .before .before .before .before .before .before .before .before .before .before .before .pre .1) (heard-by (c .before .before .read .ensures)) (c .if2 .taken)
 
 array-share-prefix-ix : tie.Need-array-share-prefix-ix
 array-share-prefix-ix c = search needs
@@ -43,7 +43,7 @@ is-model-requires : tie.Need-is-model-requires
 is-model-requires c κs = c .before .before .before .before .before .before .before .before .place .ensures .index (c .before .before .before .before .before .before .if1 .left)
 
 returns-3 : tie.Need-returns-3
-returns-3 c = not-model (tableIn (c .before .before .before .before .before .before .before .before .before .before .before .before .before .before .before .before .args .ws .now)) (nodesOf (c .before .before .before .before .before .before .before .before .before .before .before .before .before .before .before .before .args .words .now)) (c .before .before .before .before .before .before .before .before .before .before .before .before .before .before .before .before .args .answer .now) (c .before .before .before .before .before .before .before .before .before .before .before .before .before .before .before .before .args .values .now) (c .before .before .before .before .before .before .before .before .before .before .place .ensures .met (c .before .before .before .before .before .before .before .before .if1 .left)) (c .before .before .before .before .before .before .before .before .before .before .before .before .before .before .before .before .pre .1) (heard-by (c .before .before .before .before .before .before .read .ensures)) (c .before .before .before .before .if2 .left) (c .before .is-model .ensures) (c .if3 .taken)
+returns-3 c = not-model (tableIn (c .before .before .before .before .before .before .before .before .before .before .before .before .before .before .before .before .args .ws .now)) (recordsIn (c .before .before .before .before .before .before .before .before .before .before .before .before .before .before .before .before .args .words .now)) (c .before .before .before .before .before .before .before .before .before .before .before .before .before .before .before .before .args .answer .now) (c .before .before .before .before .before .before .before .before .before .before .before .before .before .before .before .before .args .values .now) (c .before .before .before .before .before .before .before .before .before .before .place .ensures .met (c .before .before .before .before .before .before .before .before .if1 .left)) (c .before .before .before .before .before .before .before .before .before .before .before .before .before .before .before .before .pre .1) (heard-by (c .before .before .before .before .before .before .read .ensures)) (c .before .before .before .before .if2 .left) (c .before .is-model .ensures) (c .if3 .taken)
 
 array-share-prefix-heard-2 : tie.Need-array-share-prefix-heard-2
 array-share-prefix-heard-2 c = (omega (arith, c .before .before .before .before .before .before .before .before .before .before .before .before .before .before .before .before .before .pre .1, c .before .before .before .before .before .before .before .before .before .before .before .before .before .before .before .before .before .pre .0 .few-variables))
@@ -58,7 +58,7 @@ same-length : tie.Need-same-length
 same-length c = search needs
 
 returns-4 : tie.Need-returns-4
-returns-4 c = took (tableIn (c .before .before .before .before .before .before .before .before .before .before .before .before .before .before .before .before .before .before .before .before .before .args .ws .now)) (nodesOf (c .before .before .before .before .before .before .before .before .before .before .before .before .before .before .before .before .before .before .before .before .before .args .words .now)) (c .before .before .before .before .before .before .before .before .before .before .before .before .before .before .before .before .before .before .before .before .before .args .answer .now) (c .before .before .before .before .before .before .before .before .before .before .before .before .before .before .before .before .before .before .before .before .before .args .values .now) (c .before .before .before .before .before .before .before .before .before .before .before .before .before .before .before .place .ensures .met (c .before .before .before .before .before .before .before .before .before .before .before .before .before .if1 .left)) (c .before .before .before .before .before .before .before .before .before .before .before .before .before .before .before .before .before .before .before .before .before .pre .1) (heard-by (c .before .before .before .before .before .before .before .before .before .before .before .read .ensures)) (c .before .before .before .before .before .before .before .before .before .if2 .left) (c .before .before .before .before .before .before .is-model .ensures) (c .before .before .before .before .before .if3 .left) (wrote-whole (c .before .before .put-bytes .ensures))
+returns-4 c = took (tableIn (c .before .before .before .before .before .before .before .before .before .before .before .before .before .before .before .before .before .before .before .before .before .args .ws .now)) (recordsIn (c .before .before .before .before .before .before .before .before .before .before .before .before .before .before .before .before .before .before .before .before .before .args .words .now)) (c .before .before .before .before .before .before .before .before .before .before .before .before .before .before .before .before .before .before .before .before .before .args .answer .now) (c .before .before .before .before .before .before .before .before .before .before .before .before .before .before .before .before .before .before .before .before .before .args .values .now) (c .before .before .before .before .before .before .before .before .before .before .before .before .before .before .before .place .ensures .met (c .before .before .before .before .before .before .before .before .before .before .before .before .before .if1 .left)) (c .before .before .before .before .before .before .before .before .before .before .before .before .before .before .before .before .before .before .before .before .before .pre .1) (heard-by (c .before .before .before .before .before .before .before .before .before .before .before .read .ensures)) (c .before .before .before .before .before .before .before .before .before .if2 .left) (c .before .before .before .before .before .before .is-model .ensures) (c .before .before .before .before .before .if3 .left) (wrote-whole (c .before .before .put-bytes .ensures))
 
 pub take-values-spec : {M : Type 1} → statement M
 take-values-spec =

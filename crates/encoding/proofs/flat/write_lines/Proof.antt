@@ -3,7 +3,7 @@ use Rattle.encoding.proofs.flat.write_lines.Statement.{statement}
 use Rattle.encoding.proofs.flat.write_lines.Tie as tie
 use mathlib.Core.Path.{sym}
 use lib.Seq.{length-take-le}
-use Rattle.nodes.specs.Nodes.{nodesOf}
+use Rattle.nodes.specs.Nodes.{recordsIn}
 use Rattle.sheet.specs.Sheet.{tableIn}
 use Rattle.encoding.proofs.Counted.{clauses-are}
 use Rattle.encoding.proofs.Answers.{other-tree, past-last-line, lined}
@@ -15,7 +15,7 @@ place-requires : tie.Need-place-requires
 place-requires c κs = search needs
 
 returns : tie.Need-returns
-returns c = other-tree (tableIn (c .before .before .before .before .before .before .before .args .ws .now)) (nodesOf (c .before .before .before .before .before .before .before .args .words .now)) (c .before .before .before .before .before .before .before .args .line) (c .before .before .place .ensures .unmet (c .if1 .taken))
+returns c = other-tree (tableIn (c .before .before .before .before .before .before .before .args .ws .now)) (recordsIn (c .before .before .before .before .before .before .before .args .words .now)) (c .before .before .before .before .before .before .before .args .line) (c .before .before .place .ensures .unmet (c .if1 .taken))
 
 array-share-prefix-ix : tie.Need-array-share-prefix-ix
 array-share-prefix-ix c = search needs
@@ -27,7 +27,7 @@ count-all-requires : tie.Need-count-all-requires
 count-all-requires c κs = c .before .before .before .place .ensures .index (c .before .if1 .left)
 
 returns-2 : tie.Need-returns-2
-returns-2 c = past-last-line (tableIn (c .before .before .before .before .before .before .before .before .before .before .args .ws .now)) (nodesOf (c .before .before .before .before .before .before .before .before .before .before .args .words .now)) (c .before .before .before .before .before .before .before .before .before .before .args .line) (c .before .before .before .before .before .place .ensures .met (c .before .before .before .if1 .left)) (clauses-are (tableIn (c .before .before .before .before .before .before .before .before .before .before .args .ws .now)) (c .before .count-all .ensures .0)) (c .if2 .taken)
+returns-2 c = past-last-line (tableIn (c .before .before .before .before .before .before .before .before .before .before .args .ws .now)) (recordsIn (c .before .before .before .before .before .before .before .before .before .before .args .words .now)) (c .before .before .before .before .before .before .before .before .before .before .args .line) (c .before .before .before .before .before .place .ensures .met (c .before .before .before .if1 .left)) (clauses-are (tableIn (c .before .before .before .before .before .before .before .before .before .before .args .ws .now)) (c .before .count-all .ensures .0)) (c .if2 .taken)
 
 array-share-prefix-ix-2 : tie.Need-array-share-prefix-ix-2
 array-share-prefix-ix-2 c = search needs
@@ -42,7 +42,7 @@ same-length : tie.Need-same-length
 same-length c = search needs
 
 returns-3 : tie.Need-returns-3
-returns-3 c = lined (tableIn (c .before .before .before .before .before .before .before .before .before .before .before .before .before .before .before .args .ws .now)) (nodesOf (c .before .before .before .before .before .before .before .before .before .before .before .before .before .before .before .args .words .now)) (c .before .before .before .before .before .before .before .before .before .before .before .before .before .before .before .args .line) (c .before .before .before .before .before .before .before .before .before .before .place .ensures .met (c .before .before .before .before .before .before .before .before .if1 .left)) (clauses-are (tableIn (c .before .before .before .before .before .before .before .before .before .before .before .before .before .before .before .args .ws .now)) (c .before .before .before .before .before .before .count-all .ensures .0)) (c .before .before .before .before .before .if2 .left) (c .before .before .put-text .ensures)
+returns-3 c = lined (tableIn (c .before .before .before .before .before .before .before .before .before .before .before .before .before .before .before .args .ws .now)) (recordsIn (c .before .before .before .before .before .before .before .before .before .before .before .before .before .before .before .args .words .now)) (c .before .before .before .before .before .before .before .before .before .before .before .before .before .before .before .args .line) (c .before .before .before .before .before .before .before .before .before .before .place .ensures .met (c .before .before .before .before .before .before .before .before .if1 .left)) (clauses-are (tableIn (c .before .before .before .before .before .before .before .before .before .before .before .before .before .before .before .args .ws .now)) (c .before .before .before .before .before .before .count-all .ensures .0)) (c .before .before .before .before .before .if2 .left) (c .before .before .put-text .ensures)
 
 pub write-lines-spec : {M : Type 1} → statement M
 write-lines-spec =
