@@ -1,26 +1,50 @@
-/* The five calls from C, on one table and its answer: example TABLE ANSWER writes the formula, an empty line and the procedure, or
- * `refused`, a tab and the number. */
+/* The seven calls from C, on one table and its answer: example TABLE ANSWER writes the formula, an empty line and the procedure, or
+ * `refused`, a tab and the number. It does so from the files alone, and then again with a tree, where all has to come out the same. */
 #include "curdfuture.h"
 #include <stdio.h>
 #include <stdlib.h>
+#include <string.h>
 
 #define MOST 65537 /* one byte more than a table or an answer may have, so that question 2 or 12 sees it */
+#define NO_SUCH_LINE 11
 
-static size_t read_file(const char *path, uint8_t *bytes) {
-    FILE *file = fopen(path, "rb");
-    if (file == NULL) {
+struct file {
+    uint8_t bytes[MOST];
+    size_t length;
+};
+
+static struct file table, answer;
+static uint8_t text[CURDFUTURE_TEXT_BYTES], listing[CURDFUTURE_LISTING_BYTES];
+
+static void read_file(const char *path, struct file *file) {
+    FILE *stream = fopen(path, "rb");
+    if (stream == NULL) {
         perror(path);
         exit(2);
     }
-    size_t length = fread(bytes, 1, MOST, file);
-    fclose(file);
-    return length;
+    file->length = fread(file->bytes, 1, MOST, stream);
+    fclose(stream);
 }
 
-static void met(size_t question) {
-    if (question != 0) {
-        printf("refused\t%zu\n", question);
-        exit(0);
+/* From the files alone: the formula until there are no more lines, then the procedure. The question that is not met, or 0. */
+static size_t from_files(void) {
+    size_t question, used, line = 0;
+    while ((question = curdfuture_write_formula(table.bytes, table.length, line, text, sizeof text, &used, &line)) == 0)
+        fwrite(text, 1, used, stdout);
+    if (question != NO_SUCH_LINE)
+        return question;
+    question = curdfuture_list_answer(table.bytes, table.length, answer.bytes, answer.length, listing, sizeof listing, &used);
+    if (question == 0) {
+        printf("\n");
+        fwrite(listing, 1, used, stdout);
+    }
+    return question;
+}
+
+static void hold(int holds, const char *what) {
+    if (!holds) {
+        fprintf(stderr, "example: not so: %s\n", what);
+        exit(1);
     }
 }
 
@@ -40,27 +64,51 @@ static int is_tree(const struct curdfuture_node *tree, size_t nodes) {
     return tree[0].depth == 0 && tree[0].parent == 0 && tree[0].steps == 0 && root_jobs != 0 && (root_jobs & (root_jobs - 1)) == 0;
 }
 
-int main(int count, char **words) {
-    static uint8_t file[MOST], answer[MOST], text[CURDFUTURE_TEXT_BYTES], values[CURDFUTURE_VALUES], listing[CURDFUTURE_LISTING_BYTES];
+/* The formula's lines with the tree are those without it. */
+static void same_lines(const struct curdfuture_node *tree, size_t clauses) {
+    static uint8_t own[CURDFUTURE_TEXT_BYTES];
+    size_t used, next, own_used, own_next;
+    for (size_t line = 0; line <= clauses; line = next) {
+        hold(curdfuture_write_formula(table.bytes, table.length, line, text, sizeof text, &used, &next) == 0, "the line is there");
+        hold(curdfuture_write_text(table.bytes, table.length, tree, CURDFUTURE_TREE_RECORDS, line, own, sizeof own, &own_used,
+                                   &own_next) == 0,
+             "the line is there with the tree");
+        hold(next > line && own_next == next && own_used == used && memcmp(own, text, used) == 0, "the same lines with the tree");
+    }
+}
+
+/* With a tree, which is built once and lent to every call, and with the values in hand. The question that is not met, or 0. */
+static size_t with_tree(void) {
     static struct curdfuture_node tree[CURDFUTURE_TREE_RECORDS];
-    size_t nodes, built, variables, clauses, set, used, line;
+    static uint8_t values[CURDFUTURE_VALUES], own[CURDFUTURE_LISTING_BYTES];
+    size_t question, nodes, variables, clauses, built, count, used;
+    question = curdfuture_check(table.bytes, table.length, &nodes, &variables, &clauses);
+    hold(curdfuture_build(table.bytes, table.length, tree, CURDFUTURE_TREE_RECORDS, &built) == question, "built where it is accepted");
+    if (question != 0)
+        return question;
+    hold(built == nodes && is_tree(tree, built), "a tree of so many nodes");
+    same_lines(tree, clauses);
+    question = curdfuture_take_answer(table.bytes, table.length, tree, CURDFUTURE_TREE_RECORDS, answer.bytes, answer.length, values,
+                                      sizeof values, &count);
+    if (question != 0)
+        return question;
+    hold(count == variables, "a value for each variable");
+    question = curdfuture_list_procedure(table.bytes, table.length, tree, CURDFUTURE_TREE_RECORDS, values, sizeof values, own, sizeof own,
+                                         &used);
+    hold(memcmp(own, listing, sizeof own) == 0, "the same listing with the tree");
+    return question;
+}
+
+int main(int count, char **words) {
     if (count != 3) {
         fprintf(stderr, "example TABLE ANSWER\n");
         return 2;
     }
-    size_t length = read_file(words[1], file);
-    size_t answer_length = read_file(words[2], answer);
-    met(curdfuture_check(file, length, &nodes, &variables, &clauses));
-    met(curdfuture_build(file, length, tree, CURDFUTURE_TREE_RECORDS, &built));
-    if (built != nodes || !is_tree(tree, built))
-        return 1;
-    for (line = 0; line <= clauses;) {
-        met(curdfuture_write_text(file, length, tree, CURDFUTURE_TREE_RECORDS, line, text, sizeof text, &used, &line));
-        fwrite(text, 1, used, stdout);
-    }
-    met(curdfuture_take_answer(file, length, tree, CURDFUTURE_TREE_RECORDS, answer, answer_length, values, sizeof values, &set));
-    met(curdfuture_list_procedure(file, length, tree, CURDFUTURE_TREE_RECORDS, values, sizeof values, listing, sizeof listing, &used));
-    printf("\n");
-    fwrite(listing, 1, used, stdout);
-    return set == variables ? 0 : 1;
+    read_file(words[1], &table);
+    read_file(words[2], &answer);
+    size_t question = from_files();
+    if (question != 0)
+        printf("refused\t%zu\n", question);
+    hold(with_tree() == question, "the same outcome with the tree");
+    return 0;
 }

@@ -12,26 +12,23 @@ use Rattle.planning.specs.Marked.{shown as shownTable}
 use Rattle.lines.specs.Bytes.{digit, sameBytes}
 use Rattle.lines.specs.Parts.{split, ended}
 use Rattle.table.specs.Reading.{NameParts, passed, reading}
-use Rattle.table.proofs.Computed.{marked-files}
+use Rattle.table.specs.Examples.{shownFile}
+use Rattle.table.proofs.Computed.{shown-reads}
 use Rattle.nodes.specs.Tree.{enoughTree, met10}
 use Rattle.nodes.specs.declared.Node.{Node}
 use Rattle.solver.specs.File.{answerOf}
 use Rattle.listing.specs.Listing.{Names, shownNames}
-use Rattle.questions.specs.Questions.{accepted, accepting, afterReading, turnedDown, taken}
+use Rattle.questions.specs.Questions.{turnedDown, taken}
 use Rattle.answer.specs.Calls.{enoughValues, enoughListing, taking, valuesAfter, lent, listingOf, showing, listingAfter}
 
 abbrev example : List ℕ
-example = bytes "F\topen\nS\tlift\t-\topen\t-\nT\tserve\nM\tserve\tlift\nI\t-\nR\tserve\t1\n"
+example = shownFile
 
 abbrev names : NameParts
-names = marked-files .shown-file .names
+names = shown-reads .names
 
 example-read : reading example ≡ passed shownTable names
-example-read = marked-files .shown-file .read
-
-example-accepted : accepting example ≡ accepted shownTable
-unfolding place childLabel childCount
-example-accepted = ap afterReading example-read
+example-read = shown-reads .read
 
 -- `s SATISFIABLE`, and then this
 abbrev after : List ℕ → List ℕ
@@ -87,7 +84,7 @@ module _ (tree : List Node) (values : List ℕ) (own : met10 shownTable tree ≡
   )
 
 example-names : shownNames example names ≡ record { steps = bytes "lift" ∷ []; jobs = bytes "serve" ∷ [] }
-example-names = ap₂ (λ (s j : List (List ℕ)). record { steps = s; jobs = j }) (marked-files .shown-file .step-names) (marked-files .shown-file .job-names)
+example-names = ap₂ (λ (s j : List (List ℕ)). record { steps = s; jobs = j }) (shown-reads .step-names) (shown-reads .job-names)
 
 module _ (tree : List Node) (more text : List ℕ) (own : met10 shownTable tree ≡ true) where
   -- "program `procedure` writes two lines: `J`, 0, `serve`, 0; then `S`, 1, `lift`; tabs between"

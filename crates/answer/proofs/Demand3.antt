@@ -21,7 +21,7 @@ use Rattle.planning.specs.Variable.{variables}
 use Rattle.planning.specs.Clause.{Lit, formula}
 use Rattle.planning.specs.Model.{value, satisfies, Model, Gives, bits, truthsIn}
 use Rattle.planning.proofs.Demand3.{demand3}
-use Rattle.nodes.specs.Nodes.{blank}
+use Rattle.nodes.specs.Tree.{blank}
 use Rattle.nodes.specs.Tree.{treeOf, enoughTree, sameNode, met10}
 use Rattle.nodes.specs.declared.Node.{Node}
 use Rattle.nodes.proofs.Same.{node-same}
@@ -35,11 +35,13 @@ use Rattle.listing.proofs.Walked.{walked-is}
 use Rattle.listing.proofs.Fits.{walked-fits}
 use Rattle.questions.specs.Questions.{Verdict, accepted, accepting, namesOf, byNumber, byVerdict, asked, turnedDown, taken}
 use Rattle.questions.proofs.Asked.{asked-accepted}
-use Rattle.answer.specs.Calls.{enoughValues, enoughListing, met15, answered, questionsTaking, taking, valuesAfter, own, lent14, lent, questionsListing, listingOf, shown, showing}
-use Rattle.answer.specs.Demand3.{OwnTree, SaysSatisfiable, SetsAndSatisfies, Takes, Lists, ForEveryAcceptedFile}
-use Rattle.answer.proofs.Questions.{FiveMet, five-met, five-of, lent-all, lent-met}
+use Rattle.answer.specs.Calls.{enoughValues, enoughListing, met15, answered, questionsOfAnswer, questionsTaking, taking, valuesAfter}
+use Rattle.answer.specs.Calls.{own, lent14, lent, questionsListing, listingOf, shown, showing, shownAnswer, showingAnswer}
+use Rattle.answer.specs.Demand3.{OwnTree, SaysSatisfiable, SetsAndSatisfies, Takes, listingIn, Lists, ListsAnswer, ForEveryAcceptedFile}
+use Rattle.answer.proofs.Questions.{FourMet, four-met, four-of, behind-10, tenth-met, lent-all, lent-met}
 use Rattle.questions.proofs.Acceptance.{accepted-table}
 use Rattle.answer.proofs.Acceptance.{short-names}
+use Rattle.answer.proofs.Answered.{answered-model}
 use Rattle.answer.proofs.Bits.{bits-back, bits-same, bits-binary, bits-length}
 use Rattle.answer.proofs.Showing.{lent-model}
 
@@ -72,64 +74,76 @@ said (some a) p q = go (a .word) (a .numbers) q
     go unsatisfiable ls q = clash q refl
     go unknown ls q = clash q refl
 
+-- which answers those are
+module _ (T : Table) (answer : List ℕ) where
+  abbrev Met : Type 0
+  Met = FourMet (met12 answer) (met13 answer) (met14 (variables T) answer) (met15 T (answered T answer))
+
+  met-in : Met → firstUnmet (questionsOfAnswer answer T) ≡ 0
+  met-in m = four-of (met12 answer) (met13 answer) (met14 (variables T) answer) (met15 T (answered T answer)) m
+
+  met-out : firstUnmet (questionsOfAnswer answer T) ≡ 0 → Met
+  met-out e = four-met (met12 answer) (met13 answer) (met14 (variables T) answer) (met15 T (answered T answer)) e
+
+  says : Met → SaysSatisfiable answer (numbersSaid (answerOf answer))
+  says m = record {
+    short = leb-sound (length answer) 65536 (and-l (leb (length answer) 65536) (isSome (answerOf answer)) (m .twelfth));
+    formed = said (answerOf answer) (and-r (leb (length answer) 65536) (isSome (answerOf answer)) (m .twelfth)) (m .thirteenth);
+  }
+
+  module _ (ls : List Lit) (s : SaysSatisfiable answer ls) where
+    said-numbers : numbersSaid (answerOf answer) ≡ ls
+    said-numbers = ap numbersSaid (s .formed)
+
+    sets-of : Met → SetsAndSatisfies T ls
+    sets-of m =
+        let r = once-out (variables T) ls (sym (ap (λ (ks : List Lit). onceEach (variables T) ks) said-numbers) ∙ m .fourteenth) in
+        record { once = r .0; no-other = r .1; satisfied = sym (ap (λ (ks : List Lit). satisfies (value (truths (variables T) ks)) (formula T)) said-numbers) ∙ m .fifteenth }
+
+    met-of : SetsAndSatisfies T ls → Met
+    met-of h = record {
+      twelfth = and-in (leb (length answer) 65536) (isSome (answerOf answer)) (leb-in (length answer) 65536 (s .short)) (ap isSome (s .formed));
+      thirteenth = ap saysSatisfiable (s .formed);
+      fourteenth = ap (λ (ks : List Lit). onceEach (variables T) ks) said-numbers ∙ once-in (variables T) ls (h .once) (h .no-other);
+      fifteenth = ap (λ (ks : List Lit). satisfies (value (truths (variables T) ks)) (formula T)) said-numbers ∙ h .satisfied;
+    }
+
 module _ (file : List ℕ) (T : Table) (a : accepting file ≡ accepted T) where
   module _ (tree : List Node) (answer values : List ℕ) where
-    abbrev Met : Type 0
-    Met = FiveMet (met10 T tree) (met12 answer) (met13 answer) (met14 (variables T) answer) (met15 T (answered T answer))
-
     abbrev enough : Bool
     enough = enoughTree tree && enoughValues values
 
-    met-takes : enough ≡ true → Met → Takes file tree answer values T (answered T answer)
-    met-takes e m =
-        let z : firstUnmet (questionsTaking tree answer T) ≡ 0 = five-of (met10 T tree) (met12 answer) (met13 answer) (met14 (variables T) answer) (met15 T (answered T answer)) m in
+    met-takes : enough ≡ true → met10 T tree ≡ true → Met T answer → Takes file tree answer values T (answered T answer)
+    met-takes e t m =
+        let z : firstUnmet (questionsTaking tree answer T) ≡ 0 = behind-10 (questionsOfAnswer answer T) t ∙ met-in T answer m in
         record {
           handed-back = all-asked file T a (questionsTaking tree answer) turnedDown (λ T. taken (variables T ∷ [])) e z;
           left = all-asked file T a (questionsTaking tree answer) (λ n. values) (λ T. bits (answered T answer) ++ drop (variables T) values) e z;
         }
 
-    takes-met : {ns : List ℕ} → taking file tree answer values ≡ taken ns → (enough ≡ true) × Met
+    takes-met : {ns : List ℕ} → taking file tree answer values ≡ taken ns → (enough ≡ true) × (met10 T tree ≡ true) × Met T answer
     takes-met e =
         let r = was-taken file T a (questionsTaking tree answer) (λ T. variables T ∷ []) enough e in
-        (r .0, five-met (met10 T tree) (met12 answer) (met13 answer) (met14 (variables T) answer) (met15 T (answered T answer)) (r .1))
+        let q = tenth-met (questionsOfAnswer answer T) (met10 T tree) (r .1) in
+        (r .0, q .0, met-out T answer (q .1))
 
-    module _ (ls : List Lit) (s : SaysSatisfiable answer ls) where
-      said-numbers : numbersSaid (answerOf answer) ≡ ls
-      said-numbers = ap numbersSaid (s .formed)
-
-      sets-of : Met → SetsAndSatisfies T ls
-      sets-of m =
-          let r = once-out (variables T) ls (sym (ap (λ (ks : List Lit). onceEach (variables T) ks) said-numbers) ∙ m .fourteenth) in
-          record { once = r .0; no-other = r .1; satisfied = sym (ap (λ (ks : List Lit). satisfies (value (truths (variables T) ks)) (formula T)) said-numbers) ∙ m .fifteenth }
-
-      met-of : met10 T tree ≡ true → SetsAndSatisfies T ls → Met
-      met-of t h = record {
-        tenth = t;
-        twelfth = and-in (leb (length answer) 65536) (isSome (answerOf answer)) (leb-in (length answer) 65536 (s .short)) (ap isSome (s .formed));
-        thirteenth = ap saysSatisfiable (s .formed);
-        fourteenth = ap (λ (ks : List Lit). onceEach (variables T) ks) said-numbers ∙ once-in (variables T) ls (h .once) (h .no-other);
-        fifteenth = ap (λ (ks : List Lit). satisfies (value (truths (variables T) ks)) (formula T)) said-numbers ∙ h .satisfied;
-      }
-
-      pub takes : OwnTree T tree → 8191 ≤ length values → Takes file tree answer values T (truths (variables T) ls) ↔ SetsAndSatisfies T ls
-      takes o l = (
-        λ t. sets-of (takes-met (t .handed-back) .1),
-        λ h. subst (λ (ks : List Lit). Takes file tree answer values T (truths (variables T) ks)) said-numbers
-            (met-takes (and-in (enoughTree tree) (enoughValues values) (leb-in 1024 (length tree) (o .long)) (leb-in 8191 (length values) l)) (met-of (o .own) h)),
-      )
+    pub takes : (ls : List Lit) → SaysSatisfiable answer ls → OwnTree T tree → 8191 ≤ length values
+        → Takes file tree answer values T (truths (variables T) ls) ↔ SetsAndSatisfies T ls
+    takes ls s o l =
+        let e = and-in (enoughTree tree) (enoughValues values) (leb-in 1024 (length tree) (o .long)) (leb-in 8191 (length values) l) in (
+          λ t. sets-of T answer ls s (takes-met (t .handed-back) .2),
+          λ h. subst (λ (ks : List Lit). Takes file tree answer values T (truths (variables T) ks)) (said-numbers T answer ls s) (met-takes e (o .own) (met-of T answer ls s h)),
+        )
 
     pub takes-no-other : (ns : List ℕ) → taking file tree answer values ≡ taken ns
         → (ls : List Lit) × SaysSatisfiable answer ls × SetsAndSatisfies T ls × OwnTree T tree × (8191 ≤ length values) × Takes file tree answer values T (truths (variables T) ls)
     takes-no-other ns e =
         let r = takes-met e in
-        let m = r .1 in
+        let m = r .2 in
         let ls = numbersSaid (answerOf answer) in
-        let s : SaysSatisfiable answer ls = record {
-          short = leb-sound (length answer) 65536 (and-l (leb (length answer) 65536) (isSome (answerOf answer)) (m .twelfth));
-          formed = said (answerOf answer) (and-r (leb (length answer) 65536) (isSome (answerOf answer)) (m .twelfth)) (m .thirteenth);
-        } in
-        let o : OwnTree T tree = record { long = leb-sound 1024 (length tree) (and-l (enoughTree tree) (enoughValues values) (r .0)); own = m .tenth } in
-        (ls, s, sets-of ls s m, o, leb-sound 8191 (length values) (and-r (enoughTree tree) (enoughValues values) (r .0)), met-takes (r .0) m)
+        let o : OwnTree T tree = record { long = leb-sound 1024 (length tree) (and-l (enoughTree tree) (enoughValues values) (r .0)); own = r .1 } in
+        let l = leb-sound 8191 (length values) (and-r (enoughTree tree) (enoughValues values) (r .0)) in
+        (ls, says T answer m, sets-of T answer ls (says T answer m) m, o, l, met-takes (r .0) (r .1) m)
 
     pub are-models : (ns : List ℕ) → taking file tree answer values ≡ taken ns → (vs : List Bool) × Model T vs × Takes file tree answer values T vs
     are-models ns e =
@@ -153,14 +167,14 @@ module _ (file : List ℕ) (T : Table) (a : accepting file ≡ accepted T) where
       )
 
   -- Listings -------------------------------------------------------------------------------------------------------------------------
+  fits : (vs : List Bool) (t : Tree) → Model T vs → Gives T vs t → length (listing (shownNames file (namesOf file)) t) ≤ 24576
+  fits vs t m g =
+      let N = shownNames file (namesOf file) in
+      omega (arith, ap length (walked-is N m g), walked-fits (accepted-table file T a) (short-names file T a) (value vs))
+
   module _ (tree : List Node) (values text : List ℕ) where
     abbrev allEnough : Bool
     allEnough = enoughTree tree && (enoughValues values && enoughListing text)
-
-    fits : (vs : List Bool) (t : Tree) → Model T vs → Gives T vs t → length (listing (shownNames file (namesOf file)) t) ≤ 24576
-    fits vs t m g =
-        let N = shownNames file (namesOf file) in
-        omega (arith, ap length (walked-is N m g), walked-fits (accepted-table file T a) (short-names file T a) (value vs))
 
     shows : allEnough ≡ true → met10 T tree ≡ true → lent14 T values ≡ true → met15 T (lent T values) ≡ true → Model T (lent T values)
         → (t : Tree) → Gives T (lent T values) t → Lists file tree values text t
@@ -202,6 +216,51 @@ module _ (file : List ℕ) (T : Table) (a : accepting file ≡ accepted T) where
       (subst (λ (ws : List Bool). Model T ws) (sym z) m)
       t (subst (λ (ws : List Bool). Gives T ws t) (sym z) g)
 
+  -- of an answer, with no tree and no values lent
+  module _ (answer text : List ℕ) where
+    answer-lists : enoughListing text ≡ true → Met T answer → (t : Tree) × Gives T (answered T answer) t × TreeOf T t × ListsAnswer file answer text t
+    answer-lists e m =
+        let z = met-in T answer m in
+        let k = answered-model T answer (m .fifteenth) in
+        let g = demand3 T ((accepted-table file T a) .sound) .gives (answered T answer) k in
+        let t = g .0 in
+        let s : shownAnswer file answer T ≡ listingIn file t = ap (listingOf (shownNames file (namesOf file))) (g .1) in (
+          t,
+          g .1,
+          g .2,
+          record {
+            handed-back = all-asked file T a (questionsOfAnswer answer) turnedDown (λ T. taken (length (shownAnswer file answer T) ∷ [])) e z ∙ ap (λ (l : List ℕ). taken (length l ∷ [])) s;
+            left =
+                all-asked file T a (questionsOfAnswer answer) (λ n. text) (λ T. shownAnswer file answer T ++ drop (length (shownAnswer file answer T)) text) e z
+                ∙ ap (λ (l : List ℕ). l ++ drop (length l) text) s;
+            fits = fits (answered T answer) t k (g .1);
+          },
+        )
+
+    lists-met : {ns : List ℕ} → showingAnswer file answer text ≡ taken ns → (enoughListing text ≡ true) × Met T answer
+    lists-met e =
+        let r = was-taken file T a (questionsOfAnswer answer) (λ T. length (shownAnswer file answer T) ∷ []) (enoughListing text) e in
+        (r .0, met-out T answer (r .1))
+
+    pub lists-answers : (ls : List Lit) → 24576 ≤ length text → SaysSatisfiable answer ls
+        → ((t : Tree) × Gives T (truths (variables T) ls) t × ListsAnswer file answer text t) ↔ SetsAndSatisfies T ls
+    lists-answers ls l s = (
+      λ r. sets-of T answer ls s (lists-met (r .2 .handed-back) .1),
+      λ h.
+          let r = answer-lists (leb-in 24576 (length text) l) (met-of T answer ls s h) in
+          (r .0, subst (λ (ks : List Lit). Gives T (truths (variables T) ks) (r .0)) (said-numbers T answer ls s) (r .1), r .3),
+    )
+
+    pub lists-no-other-answer : (ns : List ℕ) → showingAnswer file answer text ≡ taken ns
+        → (ls : List Lit) × (t : Tree) × SaysSatisfiable answer ls × SetsAndSatisfies T ls × (24576 ≤ length text)
+        × Gives T (truths (variables T) ls) t × TreeOf T t × ListsAnswer file answer text t
+    lists-no-other-answer ns e =
+        let r = lists-met e in
+        let ls = numbersSaid (answerOf answer) in
+        let s = says T answer (r .1) in
+        let g = answer-lists (r .0) (r .1) in
+        (ls, g .0, s, sets-of T answer ls s (r .1), leb-sound 24576 (length text) (r .0), g .1, g .2, g .3)
+
   -- an answer taken and then listed
   pub then-lists : (tree : List Node) (answer values text ns : List ℕ) → taking file tree answer values ≡ taken ns → 24576 ≤ length text
       → (vs : List Bool) × (t : Tree) × Model T vs × Gives T vs t × TreeOf T t × Takes file tree answer values T vs × Lists file tree (valuesAfter file tree answer values) text t
@@ -236,4 +295,6 @@ demand3-whole file T a =
       then-lists = then-lists file T a;
       lists = lists file T a;
       lists-no-other = lists-no-other file T a;
+      lists-answers = lists-answers file T a;
+      lists-no-other-answer = lists-no-other-answer file T a;
     }

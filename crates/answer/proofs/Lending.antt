@@ -14,7 +14,8 @@ use Rattle.nodes.specs.Nodes.{recordsIn}
 use Rattle.nodes.specs.Tree.{met10}
 use Rattle.tree.specs.Words.{treeWords}
 use Rattle.shape.specs.Shape.{Indexed}
-use Rattle.listing.specs.Listing.{Names, shownNames, ShortNames}
+use Rattle.listing.specs.Listing.{Names, shownNames}
+use Rattle.listing.specs.Walk.{ShortNames}
 use Rattle.listing.specs.Walk.{Listable}
 use Rattle.questions.specs.Questions.{accepted, ifMet, accepting, namesOf}
 use Rattle.questions.specs.Parts.{IsPrepared}
@@ -23,7 +24,7 @@ use Rattle.questions.proofs.Compared.{tree-length, own-words, lent-front}
 use Rattle.answer.proofs.Acceptance.{short-names}
 
 module _ (file : List ℕ) {T : Table} {p : Prepared} (h : IsPrepared file T p) (z : p .question ≡ 0) where
-  prepared-as : accepting file ≡ accepted T
+  pub prepared-as : accepting file ≡ accepted T
   prepared-as = sym (h .verdict) ∙ ap (λ (n : ℕ). ifMet n T) z
 
   pub few-values : p .variables ≤ 8191

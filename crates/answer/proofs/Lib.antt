@@ -6,13 +6,16 @@ pub mod Questions
 pub mod Acceptance
 pub mod Bits
 -- the calls, part by part and whole
+pub mod Answered
 pub mod Taking
 pub mod Lending
 pub mod Showing
+pub mod ShowingAnswer
 pub mod Loops
 pub mod Outcomes
 pub mod Lent
--- demand 3
+-- demand 3; the ten marked tables, and the edges
 pub mod Demand3
+pub mod Marked
 -- the walk that the calls over records share
 pub mod Records

@@ -13,14 +13,15 @@ use Rattle.nodes.specs.Nodes.{recordsIn, lentIn}
 use Rattle.nodes.specs.Tree.{enoughTree}
 use Rattle.nodes.specs.declared.Node.{Node}
 use Rattle.nodes.proofs.Words.{lent-all}
-use Rattle.questions.specs.Questions.{turnedDown, taken}
+use Rattle.questions.specs.Questions.{HandedBack, turnedDown, taken}
 use Rattle.questions.specs.Parts.{IsPrepared}
 use Rattle.questions.specs.declared.Prepared.{Prepared}
 use Rattle.questions.proofs.Asked.{asked-short, asked-unmet, asked-met}
-use Rattle.answer.specs.Calls.{enoughValues, enoughListing, takenFrom, answered, questionsTaking, taking, valuesAfter, listedFrom, questionsListing, shown, showing, listingAfter}
-use Rattle.answer.specs.Parts.{Took, Showed}
+use Rattle.answer.specs.Calls.{enoughValues, enoughListing, takenFrom, answered, questionsTaking, taking, valuesAfter, listedFrom, questionsListing, shown, showing, listingAfter, questionsOfAnswer, shownAnswer, showingAnswer, answerListingAfter}
+use Rattle.answer.specs.Parts.{Took, Showed, ShowedAnswer}
 use Rattle.answer.specs.declared.Taken.{Taken}
 use Rattle.answer.specs.declared.Listed.{Listed}
+use Rattle.answer.specs.declared.Listed.the-variants.{Refused}
 
 -- Taking an answer -----------------------------------------------------------------------------------------------------------------
 module _ (file : List ℕ) (tree : List Node) (answer values : List ℕ) where
@@ -89,6 +90,39 @@ module _ (file : List ℕ) (tree : List Node) (values text : List ℕ) where
       s .handed-back ∙ sym (asked-met file (questionsListing tree values) turnedDown (λ T. taken (length (shown file values T) ∷ [])) prepared all-enough z),
       s .left ∙ sym (asked-met file (questionsListing tree values) (λ n. text) (λ T. shown file values T ++ drop (length (shown file values T)) text) prepared all-enough z),
     )
+
+-- Listing an answer's procedure -----------------------------------------------------------------------------------------------------
+module _ (file answer text : List ℕ) where
+  abbrev answers : Table → HandedBack
+  answers T = taken (length (shownAnswer file answer T) ∷ [])
+
+  abbrev leaves : Table → List ℕ
+  leaves T = shownAnswer file answer T ++ drop (length (shownAnswer file answer T)) text
+
+  abbrev AnswerListed : Listed → List ℕ → Type 0
+  AnswerListed r text′ = (listedFrom r ≡ showingAnswer file answer text) × (text′ ≡ answerListingAfter file answer text)
+
+  pub answer-short : length text < 24576 → AnswerListed (Refused 1) text
+  answer-short h =
+      let e = leb-no 24576 (length text) h in (
+        sym (asked-short file (questionsOfAnswer answer) turnedDown answers e),
+        sym (asked-short file (questionsOfAnswer answer) (λ n. text) leaves e),
+      )
+
+  module _ (k : 24576 ≤ length text) {T : Table} {p : Prepared} (prepared : IsPrepared file T p) where
+    pub answer-unmet : (p .question ≡ 0 → ⊥) → AnswerListed (Refused (p .question)) text
+    answer-unmet u =
+        let e = leb-in 24576 (length text) k in (
+          sym (asked-unmet file (questionsOfAnswer answer) turnedDown answers prepared e u),
+          sym (asked-unmet file (questionsOfAnswer answer) (λ n. text) leaves prepared e u),
+        )
+
+    pub answer-met : {text′ : List ℕ} {r : Listed} → p .question ≡ 0 → ShowedAnswer file T answer text text′ r → AnswerListed r text′
+    answer-met z s =
+        let e = leb-in 24576 (length text) k in (
+          s .handed-back ∙ sym (asked-met file (questionsOfAnswer answer) turnedDown answers prepared e z),
+          s .left ∙ sym (asked-met file (questionsOfAnswer answer) (λ n. text) leaves prepared e z),
+        )
 
 -- All 1,024 records were lent ------------------------------------------------------------------------------------------------------------
 pub took-all : {T : Table} {lent : ℕ} {answer values values′ : List ℕ} {r : Taken} (words : List ℕ) → 5120 ≤ length words → 1024 ≤ lent → Took T (recordsIn words) answer values values′ r → Took T (lentIn lent words) answer values values′ r

@@ -7,60 +7,67 @@ use Prim.Native.Nat.{ℕ}
 use native.Mathlib.Omega.{arith}
 use Rattle.lists.specs.Question.{firstUnmet}
 
--- Taking an answer: 10, 12 to 15 ---------------------------------------------------------------------------------------------------
-abbrev pub five : (a b c d e : Bool) → List (ℕ × Bool)
-five a b c d e = (10, a) ∷ (12, b) ∷ (13, c) ∷ (14, d) ∷ (15, e) ∷ []
-
+-- Of an answer: 12 to 15 ------------------------------------------------------------------------------------------------------------
 abbrev pub three : (b c d : Bool) → List (ℕ × Bool)
 three b c d = (12, b) ∷ (13, c) ∷ (14, d) ∷ []
 
-module _ (a b c d e : Bool) where
-  pub unmet-10 : a ≡ false → firstUnmet (five a b c d e) ≡ 10
-  unmet-10 p = rw p
+abbrev pub four : (b c d e : Bool) → List (ℕ × Bool)
+four b c d e = (12, b) ∷ (13, c) ∷ (14, d) ∷ (15, e) ∷ []
 
+module _ (b c d e : Bool) where
   -- one of 12 to 14 is not met
-  pub unmet-three : {q : ℕ} → a ≡ true → q ≡ firstUnmet (three b c d) → (q ≡ 0 → ⊥) → firstUnmet (five a b c d e) ≡ q
-  unmet-three {q} p h u = rw p (go b c d h)
+  pub unmet-three : {q : ℕ} → q ≡ firstUnmet (three b c d) → (q ≡ 0 → ⊥) → firstUnmet (four b c d e) ≡ q
+  unmet-three {q} h u = go b c d h
     where
-      go : (b c d : Bool) → q ≡ firstUnmet (three b c d) → firstUnmet ((12, b) ∷ (13, c) ∷ (14, d) ∷ (15, e) ∷ []) ≡ q
+      go : (b c d : Bool) → q ≡ firstUnmet (three b c d) → firstUnmet (four b c d e) ≡ q
       go false c d h = sym h
       go true false d h = sym h
       go true true false h = sym h
       go true true true h = absurd (u h)
 
   -- they are met, and 15 is or is not
-  met-three : 0 ≡ firstUnmet (three b c d) → firstUnmet ((12, b) ∷ (13, c) ∷ (14, d) ∷ (15, e) ∷ []) ≡ firstUnmet ((15, e) ∷ [])
+  met-three : 0 ≡ firstUnmet (three b c d) → firstUnmet (four b c d e) ≡ firstUnmet ((15, e) ∷ [])
   met-three h = go b c d h
     where
-      go : (b c d : Bool) → 0 ≡ firstUnmet (three b c d) → firstUnmet ((12, b) ∷ (13, c) ∷ (14, d) ∷ (15, e) ∷ []) ≡ firstUnmet ((15, e) ∷ [])
+      go : (b c d : Bool) → 0 ≡ firstUnmet (three b c d) → firstUnmet (four b c d e) ≡ firstUnmet ((15, e) ∷ [])
       go false c d h = absurd (omega arith)
       go true false d h = absurd (omega arith)
       go true true false h = absurd (omega arith)
       go true true true h = refl
 
-  pub unmet-15 : a ≡ true → 0 ≡ firstUnmet (three b c d) → e ≡ false → firstUnmet (five a b c d e) ≡ 15
-  unmet-15 p h q = rw p (met-three h ∙ rw q)
+  pub unmet-15 : 0 ≡ firstUnmet (three b c d) → e ≡ false → firstUnmet (four b c d e) ≡ 15
+  unmet-15 h q = met-three h ∙ rw q
 
-  pub all-five : a ≡ true → 0 ≡ firstUnmet (three b c d) → e ≡ true → firstUnmet (five a b c d e) ≡ 0
-  all-five p h q = rw p (met-three h ∙ rw q)
+  pub all-four : 0 ≡ firstUnmet (three b c d) → e ≡ true → firstUnmet (four b c d e) ≡ 0
+  all-four h q = met-three h ∙ rw q
 
-pub record FiveMet (a b c d e : Bool) : Type 0 where
-  pub tenth : a ≡ true
+pub record FourMet (b c d e : Bool) : Type 0 where
   pub twelfth : b ≡ true
   pub thirteenth : c ≡ true
   pub fourteenth : d ≡ true
   pub fifteenth : e ≡ true
 
-pub five-met : (a b c d e : Bool) → firstUnmet (five a b c d e) ≡ 0 → FiveMet a b c d e
-five-met false b c d e h = absurd (omega arith)
-five-met true false c d e h = absurd (omega arith)
-five-met true true false d e h = absurd (omega arith)
-five-met true true true false e h = absurd (omega arith)
-five-met true true true true false h = absurd (omega arith)
-five-met true true true true true h = record { tenth = refl; twelfth = refl; thirteenth = refl; fourteenth = refl; fifteenth = refl }
+pub four-met : (b c d e : Bool) → firstUnmet (four b c d e) ≡ 0 → FourMet b c d e
+four-met false c d e h = absurd (omega arith)
+four-met true false d e h = absurd (omega arith)
+four-met true true false e h = absurd (omega arith)
+four-met true true true false h = absurd (omega arith)
+four-met true true true true h = record { twelfth = refl; thirteenth = refl; fourteenth = refl; fifteenth = refl }
 
-pub five-of : (a b c d e : Bool) → FiveMet a b c d e → firstUnmet (five a b c d e) ≡ 0
-five-of a b c d e m = rw (m .tenth, m .twelfth, m .thirteenth, m .fourteenth, m .fifteenth)
+pub four-of : (b c d e : Bool) → FourMet b c d e → firstUnmet (four b c d e) ≡ 0
+four-of b c d e m = rw (m .twelfth, m .thirteenth, m .fourteenth, m .fifteenth)
+
+-- Behind question 10 -----------------------------------------------------------------------------------------------------------------
+module _ (qs : List (ℕ × Bool)) where
+  pub behind-10 : {a : Bool} → a ≡ true → firstUnmet ((10, a) ∷ qs) ≡ firstUnmet qs
+  behind-10 p = rw p
+
+  pub unmet-10 : {a : Bool} → a ≡ false → firstUnmet ((10, a) ∷ qs) ≡ 10
+  unmet-10 p = rw p
+
+  pub tenth-met : (a : Bool) → firstUnmet ((10, a) ∷ qs) ≡ 0 → (a ≡ true) × (firstUnmet qs ≡ 0)
+  tenth-met false h = absurd (omega arith)
+  tenth-met true h = (refl, h)
 
 -- Listing a procedure: 10, 14 and 15 -----------------------------------------------------------------------------------------------
 abbrev pub lentThree : (a d e : Bool) → List (ℕ × Bool)

@@ -25,7 +25,7 @@ use Rattle.listing.specs.Listing.{Names, shownNames}
 use Rattle.listing.specs.Walk.{walked, valueOf}
 use Rattle.listing.proofs.Walked.{walked-is}
 use Rattle.questions.specs.Questions.{namesOf, taken}
-use Rattle.answer.specs.Calls.{met15, own, lent14, lent, questionsListing, listingOf, shown}
+use Rattle.answer.specs.Calls.{met15, own, lent14, lent, questionsListing, listingOf, listingFor, shown}
 use Rattle.answer.specs.Parts.{Showed}
 use Rattle.answer.specs.declared.Listed.the-variants.{Refused, Written}
 use Rattle.answer.proofs.Questions.{lent-10, lent-14, lent-15, lent-all}
@@ -37,6 +37,13 @@ refused-by {file} {T} {tree} {values} {text} {q} e u = go q e u
     go zero e u = absurd (u refl)
     go (suc n) e u = record { handed-back = sym (rw e); left = sym (rw e) }
 
+-- a model's values, read node by node, are the listing of the tree that it gives
+pub model-walked : (T : Table) → Accepted T → (file : List ℕ) {vs : List Bool} → Model T vs → walked T (shownNames file (namesOf file)) (value vs) ≡ listingFor file T vs
+model-walked T a file {vs} m =
+    let N = shownNames file (namesOf file) in
+    let g = demand3 T (a .sound) .gives vs m in
+    walked-is N m (g .1) ∙ sym (ap (listingOf N) (g .1))
+
 -- Lent values that meet 14 and 15 --------------------------------------------------------------------------------------------------
 module _ (T : Table) (a : Accepted T) (values : List ℕ) (long : 8191 ≤ length values) where
   own-length : length (own T values) ≡ variables T
@@ -47,11 +54,7 @@ module _ (T : Table) (a : Accepted T) (values : List ℕ) (long : 8191 ≤ lengt
 
   -- the listing of the tree that they give is what is read node by node
   pub shown-walked : (file : List ℕ) → met15 T (lent T values) ≡ true → walked T (shownNames file (namesOf file)) (valueOf (own T values)) ≡ shown file values T
-  shown-walked file e =
-      let N = shownNames file (namesOf file) in
-      let m = lent-model e in
-      let g = demand3 T (a .sound) .gives (lent T values) m in
-      walked-is N m (g .1) ∙ sym (ap (listingOf N) (g .1))
+  shown-walked file e = model-walked T a file (lent-model e)
 
 module _ (file : List ℕ) (T : Table) (tree : List Node) (values text : List ℕ) where
   pub other-tree : met10 T tree ≡ false → Showed file T tree values text text (Refused 10)

@@ -43,9 +43,11 @@ takenFrom (Values n) = taken (n ∷ [])
 abbrev pub answered : Table → List ℕ → List Bool
 answered T answer = valuesOf (variables T) answer
 
+abbrev pub questionsOfAnswer : (answer : List ℕ) → Table → List (ℕ × Bool)
+questionsOfAnswer answer T = (12, met12 answer) ∷ (13, met13 answer) ∷ (14, met14 (variables T) answer) ∷ (15, met15 T (answered T answer)) ∷ []
+
 abbrev pub questionsTaking : (tree : List Node) (answer : List ℕ) → Table → List (ℕ × Bool)
-questionsTaking tree answer T =
-    (10, met10 T tree) ∷ (12, met12 answer) ∷ (13, met13 answer) ∷ (14, met14 (variables T) answer) ∷ (15, met15 T (answered T answer)) ∷ []
+questionsTaking tree answer T = (10, met10 T tree) ∷ questionsOfAnswer answer T
 
 -- it hands back how many values there are
 abbrev pub taking : (file : List ℕ) (tree : List Node) (answer values : List ℕ) → HandedBack
@@ -83,8 +85,11 @@ abbrev pub listingOf : Names → Option Tree → List ℕ
 listingOf N none = []
 listingOf N (some t) = listing N t
 
+abbrev pub listingFor : (file : List ℕ) → Table → List Bool → List ℕ
+listingFor file T vs = listingOf (shownNames file (namesOf file)) (given T vs)
+
 abbrev pub shown : (file values : List ℕ) → Table → List ℕ
-shown file values T = listingOf (shownNames file (namesOf file)) (given T (lent T values))
+shown file values T = listingFor file T (lent T values)
 
 -- it hands back how many bytes are used
 abbrev pub showing : (file : List ℕ) (tree : List Node) (values text : List ℕ) → HandedBack
@@ -97,3 +102,16 @@ abbrev pub listingAfter : (file : List ℕ) (tree : List Node) (values text : Li
 listingAfter file tree values text =
     asked (enoughTree tree && (enoughValues values && enoughListing text)) file (questionsListing tree values) (λ n. text)
     (λ T. shown file values T ++ drop (length (shown file values T)) text)
+
+-- Listing the procedure of an answer, with no tree and no values lent, so that 10 is not put: 1 of the listing, 2 to 9, 12 to 15 -------
+abbrev pub shownAnswer : (file answer : List ℕ) → Table → List ℕ
+shownAnswer file answer T = listingFor file T (answered T answer)
+
+abbrev pub showingAnswer : (file answer text : List ℕ) → HandedBack
+showingAnswer file answer text =
+    asked (enoughListing text) file (questionsOfAnswer answer) turnedDown (λ T. taken (length (shownAnswer file answer T) ∷ []))
+
+abbrev pub answerListingAfter : (file answer text : List ℕ) → List ℕ
+answerListingAfter file answer text =
+    asked (enoughListing text) file (questionsOfAnswer answer) (λ n. text)
+    (λ T. shownAnswer file answer T ++ drop (length (shownAnswer file answer T)) text)

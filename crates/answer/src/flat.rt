@@ -53,7 +53,8 @@ pub fn take_answer(
     answer: &[u8],
     values: &mut [u8],
 ) -> Taken
-    ensures { λ r. ⌜ (takenFrom r ≡ taking (now (file .entry)) (lentIn lent (now (words .entry))) (now (answer .entry)) (now (values .entry))) × (now (values .exit) ≡ valuesAfter (now (file .entry)) (lentIn lent (now (words .entry))) (now (answer .entry)) (now (values .entry))) ⌝ }
+    ensures { λ r. ⌜ (takenFrom r ≡ taking (now (file .entry)) (lentIn lent (now (words .entry))) (now (answer .entry)) (now (values .entry)))
+        × (now (values .exit) ≡ valuesAfter (now (file .entry)) (lentIn lent (now (words .entry))) (now (answer .entry)) (now (values .entry))) ⌝ }
 {
     if lent < 1024 {
         return Taken::Refused(1);
@@ -96,8 +97,10 @@ fn list_lines<'a, 'b, 'c, 'd>(
     values: &'c [u8],
     text: &'d mut [u8],
 ) -> Listed
-    requires { ⌜ IsPrepared (now file) (tableIn (now ws)) p × (p .question ≡ 0) × (5120 ≤ length (now words)) × (8191 ≤ length (now values)) × (24576 ≤ length (now text)) ⌝ }
-    ensures { λ r. ⌜ Showed (now (file .entry)) (tableIn (now (ws .entry))) (recordsIn (now (words .entry))) (now (values .entry)) (now (text .entry)) (now (text .exit)) r ⌝ }
+    requires { ⌜ IsPrepared (now file) (tableIn (now ws)) p × (p .question ≡ 0) × (5120 ≤ length (now words)) × (8191 ≤ length (now values))
+        × (24576 ≤ length (now text)) ⌝ }
+    ensures { λ r. ⌜ Showed (now (file .entry)) (tableIn (now (ws .entry))) (recordsIn (now (words .entry))) (now (values .entry)) (now (text .entry))
+        (now (text .exit)) r ⌝ }
 {
     let mut ix = [0u64; 24578];
     let m = questions::place(ws, words, &mut ix);
@@ -125,7 +128,8 @@ pub fn list_procedure(
     values: &[u8],
     text: &mut [u8],
 ) -> Listed
-    ensures { λ r. ⌜ (listedFrom r ≡ showing (now (file .entry)) (lentIn lent (now (words .entry))) (now (values .entry)) (now (text .entry))) × (now (text .exit) ≡ listingAfter (now (file .entry)) (lentIn lent (now (words .entry))) (now (values .entry)) (now (text .entry))) ⌝ }
+    ensures { λ r. ⌜ (listedFrom r ≡ showing (now (file .entry)) (lentIn lent (now (words .entry))) (now (values .entry)) (now (text .entry)))
+        × (now (text .exit) ≡ listingAfter (now (file .entry)) (lentIn lent (now (words .entry))) (now (values .entry)) (now (text .entry))) ⌝ }
 {
     if lent < 1024 {
         return Listed::Refused(1);

@@ -1,12 +1,12 @@
 -- Small examples. The checksums of the three texts are those that FNV's authors publish.
 -- Each is computed.
 use mathlib.Core.Path.{_≡_, refl}
-use mathlib.Core.List.{[], _∷_}
+use mathlib.Core.List.{[]}
 use lib.ListN.{getD}
 use Rattle.lists.specs.Text.{bytes}
 use Rattle.lines.specs.Parts.{split}
 use Rattle.cases.specs.Number.{spelled}
-use Rattle.cases.specs.Checksum.{basis, ofBytes, bytesOf}
+use Rattle.cases.specs.Checksum.{basis, ofBytes}
 
 pub field-last : getD (split 9 (bytes "call\tx.tab\t\t12")) 3 [] ≡ bytes "12"
 unfolding split
@@ -34,7 +34,3 @@ checksum-a = refl
 
 pub checksum-foobar : ofBytes basis (bytes "foobar") ≡ 9625390261332436968
 checksum-foobar = refl
-
-pub word-bytes : bytesOf 8 513 ≡ 1 ∷ 2 ∷ 0 ∷ 0 ∷ 0 ∷ 0 ∷ 0 ∷ 0 ∷ []
-unfolding bytesOf
-word-bytes = refl

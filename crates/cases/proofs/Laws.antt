@@ -1,21 +1,20 @@
 -- How the loops follow the definitions.
 -- What is left to take in gives the same as the whole.
 use mathlib.Core.Path.{_≡_, refl, sym, ap, _∙_}
-use mathlib.Core.List.{List, [], foldl, foldl-append}
-use Prim.Native.Nat.{ℕ, suc, _+_, _-_, _*_, _/_, _%_, _≤_, _<_}
+use mathlib.Core.List.{List, [], foldl}
+use Prim.Native.Nat.{ℕ, _+_, _-_, _*_, _/_, _%_, _≤_, _<_}
 use native.Mathlib.Numerals.{add-one}
 use native.Mathlib.Omega.{arith}
 use lib.ListN.{length, getD, take, drop, drop-of-length-le}
 use lib.Seq.{drop-cons, take-length, length-take-le}
 use borrow.Author.Tests.{le-leb, lt-leb}
 use Rattle.io.specs.Counts.{Counts}
-use Rattle.lists.specs.List.{concatMap}
 use Rattle.lines.specs.Parts.{split}
 use Rattle.lines.proofs.Slice.{take-drop}
 use Rattle.grammar.specs.Line.{field}
 use Rattle.grammar.specs.Field.{At}
 use Rattle.cases.specs.Within.{within}
-use Rattle.cases.specs.Checksum.{timesPrime, step, bytesOf}
+use Rattle.cases.specs.Checksum.{timesPrime}
 
 -- A list taken in from the place i on ------------------------------------------------------------------------------------
 pub left-more : (f : ℕ → ℕ → ℕ) (l : List ℕ) (i g : ℕ) {t : ℕ} → foldl f g (drop i l) ≡ t → i < length l → foldl f (f g (getD l i 0)) (drop (i + 1) l) ≡ t
@@ -56,33 +55,3 @@ prime-by-halves x =
     (halves x (x / 4294967296) (x % 4294967296) (low / 4294967296) (low % 4294967296) (x / 16777216) (x % 16777216) (high / 4294967296) (high % 4294967296)
     (omega arith) (omega arith) (omega arith) (omega arith))
     (omega arith)
-
--- the bytes of a word that are left after i of them
-pub word-more : (i g w : ℕ) {t : ℕ} → foldl step g (bytesOf (8 - i) w) ≡ t → i < 8 → foldl step (step g (w % 256)) (bytesOf (8 - (i + 1)) (w / 256)) ≡ t
-unfolding bytesOf
-word-more i g w {t} e h =
-    let n : 8 - i ≡ suc (8 - (i + 1)) = omega arith in
-    let q : foldl step g (bytesOf (8 - i) w) ≡ foldl step (step g (w % 256)) (bytesOf (8 - (i + 1)) (w / 256)) = rw n in
-    sym q ∙ e
-
-pub word-done : (i g w : ℕ) {t : ℕ} → foldl step g (bytesOf (8 - i) w) ≡ t → 8 ≤ i → g ≡ t
-unfolding bytesOf
-word-done i g w {t} e h =
-    let n : 8 - i ≡ 0 = omega arith in
-    let q : foldl step g (bytesOf (8 - i) w) ≡ g = rw n in
-    sym q ∙ e
-
--- the words that are left from i on
-abbrev pub wordsFrom : List ℕ → ℕ → ℕ → ℕ
-wordsFrom ws i g = foldl step g (concatMap (bytesOf 8) (drop i ws))
-
-pub words-more : (ws : List ℕ) (i g : ℕ) {t : ℕ} → wordsFrom ws i g ≡ t → i < length ws → wordsFrom ws (i + 1) (foldl step g (bytesOf 8 (getD ws i 0))) ≡ t
-words-more ws i g {t} e h =
-    let q : wordsFrom ws i g ≡ wordsFrom ws (i + 1) (foldl step g (bytesOf 8 (getD ws i 0))) =
-    ap (λ (l : List ℕ). foldl step g (concatMap (bytesOf 8) l)) (drop-cons ws i 0 h)
-    ∙ foldl-append step g (bytesOf 8 (getD ws i 0)) (concatMap (bytesOf 8) (drop (suc i) ws))
-    ∙ ap (λ (n : ℕ). wordsFrom ws n (foldl step g (bytesOf 8 (getD ws i 0)))) (sym (add-one i)) in
-    sym q ∙ e
-
-pub words-done : (ws : List ℕ) (i g : ℕ) {t : ℕ} → wordsFrom ws i g ≡ t → length ws ≤ i → g ≡ t
-words-done ws i g {t} e h = let q : wordsFrom ws i g ≡ g = rw (drop-of-length-le ws {i = i} h) in sym q ∙ e

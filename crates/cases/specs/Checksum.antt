@@ -1,7 +1,7 @@
--- The 64-bit FNV-1a checksum.
+-- Inside the stored cases, nothing to believe: the 64-bit FNV-1a checksum.
 -- Assumes nothing.
-use mathlib.Core.List.{List, [], _∷_, foldl}
-use Prim.Native.Nat.{ℕ, zero, suc, _*_, _%_, _/_}
+use mathlib.Core.List.{List, foldl}
+use Prim.Native.Nat.{ℕ, _*_, _%_}
 use lib.Bits.{bitXor}
 
 -- the checksum of nothing
@@ -19,8 +19,3 @@ step h b = timesPrime (bitXor h b)
 -- bytes more
 abbrev pub ofBytes : ℕ → List ℕ → ℕ
 ofBytes h bs = foldl step h bs
-
--- the k lowest bytes of a word, lowest first
-unfoldable pub bytesOf : ℕ → ℕ → List ℕ
-bytesOf zero w = []
-bytesOf (suc k) w = w % 256 ∷ bytesOf k (w / 256)

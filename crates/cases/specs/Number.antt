@@ -1,7 +1,7 @@
--- The number that digits spell in base ten, as a number of 64 binary digits.
+-- Inside the stored cases, nothing to believe: the number that digits spell in base ten, as a number of 64 binary digits.
 -- Assumes nothing.
 use mathlib.Core.List.{List, foldl}
-use Prim.Native.Nat.{ℕ, _+_, _-_, _*_, _%_, _≤_}
+use Prim.Native.Nat.{ℕ, _+_, _*_, _%_}
 
 -- n with the digit d behind it, cut where it is too long; the lowest four binary digits of a byte "0" to "9" are its value
 abbrev pub withDigit : ℕ → ℕ → ℕ
@@ -9,14 +9,3 @@ withDigit n d = ((n % 1844674407370955162) * 10 + d % 16) % 18446744073709551616
 
 abbrev pub spelled : List ℕ → ℕ
 spelled ds = foldl withDigit 0 ds
-
--- "0" to "9"
-abbrev pub isDigit : ℕ → Type 0
-isDigit d = (48 ≤ d) × (d ≤ 57)
-
--- the number itself: proofs/Decimal shows that digits spell it where it is below 2^64
-abbrev pub andDigit : ℕ → ℕ → ℕ
-andDigit n d = n * 10 + (d - 48)
-
-abbrev pub decimal : List ℕ → ℕ
-decimal ds = foldl andDigit 0 ds

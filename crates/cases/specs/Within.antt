@@ -1,4 +1,4 @@
--- A count within a buffer.
+-- Inside the stored cases, nothing to believe: a count within a buffer.
 -- Assumes nothing.
 use mathlib.Core.Bool.{cond}
 use Prim.Native.Nat.{ℕ}

@@ -1,14 +1,13 @@
-// What the programs that run stored cases share: the fields of a case's line, counts that are within a buffer, and the checksum that
+// What the program of stored cases works out by itself: the fields of a case's line, counts that are within a buffer, and the checksum that
 // stands for a buffer too long to print. Every contract gives the outcome outright.
 ghost use mathlib.Core.Path.{_≡_};
 ghost use mathlib.Core.List.{[]};
 ghost use lib.ListN.{length, getD, take};
-ghost use Rattle.lists.specs.List.{concatMap};
 ghost use Rattle.lines.specs.Parts.{split};
 ghost use Rattle.io.specs.Counts.{Counts};
 ghost use Rattle.cases.specs.Number.{withDigit, spelled};
 ghost use Rattle.cases.specs.Within.{within};
-ghost use Rattle.cases.specs.Checksum.{basis, timesPrime, step, ofBytes, bytesOf};
+ghost use Rattle.cases.specs.Checksum.{basis, timesPrime, step, ofBytes};
 
 // Field k of a line, the fields parted by tabs and numbered from 0; empty, where there is none.
 pub fn field(line: &[u8], k: usize) -> &[u8]
@@ -48,12 +47,6 @@ pub fn number(line: &[u8], k: usize) -> usize
 // A count that is within a slice, so that `&s[..n]` can be taken: n itself, or 0 where the slice has fewer elements. A call that hands back
 // a count past its buffer thus gives an empty part, and the output differs.
 pub fn bytes_within(n: usize, s: &[u8]) -> usize
-    ensures { λ r. ⌜ (r ≡ within n (length (now (s .entry)))) × Counts r (now (s .entry)) ⌝ }
-{
-    if n <= s.len() { n } else { 0 }
-}
-
-pub fn words_within(n: usize, s: &[u64]) -> usize
     ensures { λ r. ⌜ (r ≡ within n (length (now (s .entry)))) × Counts r (now (s .entry)) ⌝ }
 {
     if n <= s.len() { n } else { 0 }
@@ -100,31 +93,4 @@ pub fn checksum_bytes(h: u64, bytes: &[u8], n: usize) -> u64
 {
     let m = bytes_within(n, bytes);
     with_bytes(h, &bytes[..m])
-}
-
-fn with_word(h: u64, w: u64) -> u64
-    ensures { λ r. ⌜ r ≡ ofBytes h (bytesOf 8 w) ⌝ }
-{
-    let mut g = h;
-    let mut rest = w;
-    let mut i: usize = 0;
-    while i < 8 {
-        g = with_byte(g, (rest % 256) as u8);
-        rest /= 256;
-        i += 1;
-    }
-    g
-}
-
-// With all the words, the bytes of each lowest first.
-pub fn checksum_words(h: u64, words: &[u64]) -> u64
-    ensures { λ r. ⌜ r ≡ ofBytes h (concatMap (bytesOf 8) (now (words .entry))) ⌝ }
-{
-    let mut g = h;
-    let mut i: usize = 0;
-    while i < words.len() {
-        g = with_word(g, words[i]);
-        i += 1;
-    }
-    g
 }

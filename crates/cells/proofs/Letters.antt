@@ -1,8 +1,10 @@
 -- The lines of an answer file by their kind, and the word of an `s` line.
 -- By the first two bytes; then the definitions of crate `solver` follow.
-use mathlib.Core.Path.{_≡_, refl, sym, ap, _∙_}
+use mathlib.Core.Path.{_≡_, refl, sym, ap, _∙_, subst}
 use mathlib.Core.Bool.{Bool, true, false, cond}
 use mathlib.Core.List.{List, [], _∷_}
+use mathlib.Core.Logic.{inl, inr}
+use mathlib.Core.Option.{Option, none, some}
 use Prim.Native.Nat.{ℕ, suc, _+_, _-_, _≤_}
 use native.Mathlib.Omega.{arith}
 use lib.ListN.{length, getD}
@@ -12,11 +14,16 @@ use borrow.Author.Tests.{eq-eqb, ne-eqb}
 use Rattle.lists.proofs.Bool.{clash}
 use Rattle.lines.specs.Bytes.{sameBytes}
 use Rattle.lines.proofs.Slice.{slice-one}
+use Rattle.lines.specs.Parts.{split}
+use Rattle.planning.specs.Clause.{Lit}
+use Rattle.solver.specs.Number.{numbersOf}
+use Rattle.solver.specs.Line.{Word as SolverWord, satisfiable, unsatisfiable, unknown, comment, says, unformed, wordLine, numbersLine, lineOf}
 use Rattle.solver.specs.Line.{SATISFIABLE, UNSATISFIABLE, UNKNOWN}
 use Rattle.cells.specs.declared.kind.Kind.{Kind}
 use Rattle.cells.specs.declared.kind.Kind.the-variants.{Comment, Word as WordKind, Values, Other as OtherKind}
 use Rattle.cells.specs.declared.kind.Word.the-variants.{Satisfiable, Other, None}
-use Rattle.cells.specs.Kind.{lettered, kind, commentKind, isComment, wordIn, behindSpace, wordBy, wordOf}
+use Rattle.cells.specs.declared.kind.Word.{Word}
+use Rattle.cells.specs.Kind.{lettered, kind, behindSpace, lineFrom, IsKind, commentKind, isComment, Says, wordIn, wordBy, wordOf, IsWordIn, IsWord}
 
 -- The first two bytes ------------------------------------------------------------------------------------------------------------
 pub kind-none : (s : List ℕ) (a b : ℕ) → a ≡ b → OtherKind ≡ kind (slice a b s)
@@ -53,6 +60,32 @@ lettered-v x e = rw e
 
 pub lettered-other : (x : ℕ) → (x ≡ 99 → ⊥) → (x ≡ 115 → ⊥) → (x ≡ 118 → ⊥) → OtherKind ≡ lettered x
 lettered-other x f g h = rw (ne-eqb x 99 f, ne-eqb x 115 g, ne-eqb x 118 h)
+
+pub line-kind : (l : List ℕ) → lineOf l ≡ lineFrom (kind l) (behindSpace l)
+line-kind [] = refl
+line-kind (b ∷ []) = go (eqb b 99) (eqb b 115) (eqb b 118)
+  where
+    go : (c s v : Bool) → cond c comment (cond s unformed (cond v unformed unformed)) ≡ lineFrom (cond c Comment OtherKind) []
+    go true s v = refl
+    go false true v = refl
+    go false false true = refl
+    go false false false = refl
+line-kind (b ∷ d ∷ more) = go (eqb b 99) (eqb b 115) (eqb b 118) (eqb d 32)
+  where
+    go : (c s v x : Bool)
+        → cond c (cond x comment unformed) (cond s (cond x (wordLine more) unformed) (cond v (cond x (numbersLine (numbersOf (split 32 more))) unformed) unformed))
+        ≡ lineFrom (cond x (cond c Comment (cond s WordKind (cond v Values OtherKind))) OtherKind) more
+    go true s v true = refl
+    go true s v false = refl
+    go false true v true = refl
+    go false true v false = refl
+    go false false true true = refl
+    go false false true false = refl
+    go false false false true = refl
+    go false false false false = refl
+
+pub kinded : {l : List ℕ} {r : Kind} → r ≡ kind l → IsKind l r
+kinded {l} {r} e = record { is = e; means = ap (λ (k : Kind). lineFrom k (behindSpace l)) e ∙ sym (line-kind l) }
 
 -- The kind as it was told --------------------------------------------------------------------------------------------------------
 pub comment-is : (l : List ℕ) {k : Kind} {r : Bool} → k ≡ kind l → r ≡ commentKind k → r ≡ isComment l
@@ -102,3 +135,38 @@ word-line s a b h e =
 
 pub word-no-line : (l : List ℕ) (k : Kind) → k ≡ kind l → wordBy k (behindSpace l) ≡ wordOf l
 word-no-line l k e = rw e
+
+-- What the word says ---------------------------------------------------------------------------------------------------------------
+comment-unsaid : (w : SolverWord) → comment ≡ says w → ⊥
+comment-unsaid w e = let z : _≡_ {A = ℕ} 0 1 = cc in omega arith
+
+unformed-unsaid : (w : SolverWord) → unformed ≡ says w → ⊥
+unformed-unsaid w e = let z : _≡_ {A = ℕ} 0 1 = cc in omega arith
+
+numbers-unsaid : (o : Option (List Lit)) (w : SolverWord) → numbersLine o ≡ says w → ⊥
+numbers-unsaid none w e = unformed-unsaid w e
+numbers-unsaid (some ls) w e = let z : _≡_ {A = ℕ} 0 1 = cc in omega arith
+
+word-says : (bs : List ℕ) → Says (wordIn bs) (wordLine bs)
+word-says bs = go (sameBytes bs SATISFIABLE) (sameBytes bs UNSATISFIABLE) (sameBytes bs UNKNOWN)
+  where
+    go : (a b c : Bool) → Says (cond a Satisfiable (cond b Other (cond c Other None))) (cond a (says satisfiable) (cond b (says unsatisfiable) (cond c (says unknown) unformed)))
+    go true b c = refl
+    go false true c = inl refl
+    go false false true = inr refl
+    go false false false = unformed-unsaid
+
+line-says : (l : List ℕ) → Says (wordOf l) (lineOf l)
+line-says l = rw (line-kind l) (go (kind l) (behindSpace l))
+  where
+    go : (k : Kind) (more : List ℕ) → Says (wordBy k more) (lineFrom k more)
+    go Comment more = comment-unsaid
+    go WordKind more = word-says more
+    go Values more = numbers-unsaid (numbersOf (split 32 more))
+    go OtherKind more = unformed-unsaid
+
+pub word-in : {bs : List ℕ} {r : Word} → r ≡ wordIn bs → IsWordIn bs r
+word-in {bs} {r} e = record { is = e; means = subst (λ (w : Word). Says w (wordLine bs)) (sym e) (word-says bs) }
+
+pub worded : {l : List ℕ} {r : Word} → r ≡ wordOf l → IsWord l r
+worded {l} {r} e = record { is = e; means = subst (λ (w : Word). Says w (lineOf l)) (sym e) (line-says l) }

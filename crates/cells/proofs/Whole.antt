@@ -29,7 +29,8 @@ use Rattle.cells.specs.declared.kind.Kind.the-variants.{Comment, Word as
 use Rattle.cells.specs.declared.kind.Word.{Word}
 use Rattle.cells.specs.declared.kind.Word.the-variants.{Satisfiable, Other, None}
 use Rattle.cells.specs.declared.State.{State}
-use Rattle.cells.specs.Kind.{kind, commentKind, isComment, behindSpace, wordIn, wordBy, wordOf, Passed}
+use Rattle.cells.specs.Kind.{kind, behindSpace, lineFrom, commentKind, isComment, wordIn, wordBy, wordOf, Passed}
+use Rattle.cells.proofs.Letters.{line-kind}
 use Rattle.cells.specs.State.{stateFrom, Stands}
 use Rattle.cells.specs.Read.{Told, onlyComments}
 use Rattle.cells.proofs.Reading.{lineBy, line-is}
@@ -153,35 +154,6 @@ unknown-is r ls = rw (other-lines unknown no r ls) (go (all isComment ls))
     no r (some l) = refl
 
 -- From the first line on -----------------------------------------------------------------------------------------------------------
-abbrev kindLine : Kind → List ℕ → Line
-kindLine Comment more = comment
-kindLine WordKind more = wordLine more
-kindLine Values more = numbersLine (numbersOf (split 32 more))
-kindLine OtherKind more = unformed
-
-line-kind : (l : List ℕ) → lineOf l ≡ kindLine (kind l) (behindSpace l)
-line-kind [] = refl
-line-kind (b ∷ []) = go (eqb b 99) (eqb b 115) (eqb b 118)
-  where
-    go : (c s v : Bool) → cond c comment (cond s unformed (cond v unformed unformed)) ≡ kindLine (cond c Comment OtherKind) []
-    go true s v = refl
-    go false true v = refl
-    go false false true = refl
-    go false false false = refl
-line-kind (b ∷ d ∷ more) = go (eqb b 99) (eqb b 115) (eqb b 118) (eqb d 32)
-  where
-    go : (c s v x : Bool)
-        → cond c (cond x comment unformed) (cond s (cond x (wordLine more) unformed) (cond v (cond x (numbersLine (numbersOf (split 32 more))) unformed) unformed))
-        ≡ kindLine (cond x (cond c Comment (cond s WordKind (cond v Values OtherKind))) OtherKind) more
-    go true s v true = refl
-    go true s v false = refl
-    go false true v true = refl
-    go false true v false = refl
-    go false false true true = refl
-    go false false true false = refl
-    go false false false true = refl
-    go false false false false = refl
-
 -- what the word and the lines behind it say
 abbrev pub fromWord : ℕ → Word → List (List ℕ) → ℕ × List ℕ
 fromWord n Satisfiable ls = decide satisfiable (readLines satisfiable (begin n) ls)
@@ -192,7 +164,7 @@ module _ (n : ℕ) (l : List ℕ) (ls : List (List ℕ)) where
   from-comment : isComment l ≡ true → readFrom n (l ∷ ls) ≡ readFrom n ls
   from-comment e = rw (line-kind l) (go (kind l) (behindSpace l) e)
     where
-      go : (k : Kind) (more : List ℕ) → commentKind k ≡ true → fromLine n (kindLine k more) (readFrom n ls) ls ≡ readFrom n ls
+      go : (k : Kind) (more : List ℕ) → commentKind k ≡ true → fromLine n (lineFrom k more) (readFrom n ls) ls ≡ readFrom n ls
       go Comment more e = refl
       go WordKind more e = clash e refl
       go Values more e = clash e refl
@@ -215,7 +187,7 @@ module _ (n : ℕ) (l : List ℕ) (ls : List (List ℕ)) where
       numbers none = refl
       numbers (some ks) = refl
 
-      go : (k : Kind) (more : List ℕ) → commentKind k ≡ false → fromLine n (kindLine k more) (readFrom n ls) ls ≡ fromWord n (wordBy k more) ls
+      go : (k : Kind) (more : List ℕ) → commentKind k ≡ false → fromLine n (lineFrom k more) (readFrom n ls) ls ≡ fromWord n (wordBy k more) ls
       go Comment more e = clash refl e
       go WordKind more e = from-word more
       go Values more e = numbers (numbersOf (split 32 more))

@@ -1,4 +1,4 @@
--- Inside the reader: a number as the code reads it. Nothing to believe: `numberOf` of crate `solver` is the meaning.
+-- Inside the reader of an answer, nothing to believe: a number as the code reads it. `numberOf` of crate `solver` is the meaning.
 -- Assumes nothing.
 use mathlib.Core.Bool.{Bool, true, false, _&&_, cond}
 use mathlib.Core.List.{List}

@@ -1,4 +1,4 @@
--- Inside the reader: how far an answer is read. Nothing to believe: `Reading` of crate `solver` is the meaning.
+-- Inside the reader of an answer, nothing to believe: how far an answer is read. `Reading` of crate `solver` is the meaning.
 -- Assumes nothing.
 use mathlib.Core.Path.{_≡_}
 use mathlib.Core.Bool.{Bool, cond}

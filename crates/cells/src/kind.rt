@@ -5,7 +5,7 @@ ghost use Prim.Native.Nat.{_≤_};
 ghost use lib.ListN.{length};
 ghost use lib.Seq.{slice};
 ghost use Rattle.lines.specs.Bytes.{sameBytes};
-ghost use Rattle.cells.specs.Kind.{kind, isComment, wordOf, wordIn, Passed};
+ghost use Rattle.cells.specs.Kind.{IsKind, isComment, IsWordIn, IsWord, Passed};
 use lines::cut;
 
 // `c` alone; or the letter, a space and more.
@@ -18,7 +18,7 @@ pub enum Kind {
 
 pub fn kind_of(s: &[u8], a: usize, b: usize) -> Kind
     requires { ⌜ (a ≤ b) × (b ≤ length (now s)) ⌝ }
-    ensures { λ r. ⌜ r ≡ kind (slice a b (now (s .entry))) ⌝ }
+    ensures { λ r. ⌜ IsKind (slice a b (now (s .entry))) r ⌝ }
 {
     if a == b {
         return Kind::Other;
@@ -102,7 +102,7 @@ pub enum Word {
 // The word that stands from a up to b.
 fn read_word(s: &[u8], a: usize, b: usize) -> Word
     requires { ⌜ (a ≤ b) × (b ≤ length (now s)) ⌝ }
-    ensures { λ r. ⌜ r ≡ wordIn (slice a b (now (s .entry))) ⌝ }
+    ensures { λ r. ⌜ IsWordIn (slice a b (now (s .entry))) r ⌝ }
 {
     if is_text(s, a, b, b"SATISFIABLE") {
         return Word::Satisfiable;
@@ -119,7 +119,7 @@ fn read_word(s: &[u8], a: usize, b: usize) -> Word
 // The word of the `s` line from a up to b; none where it is no `s` line.
 pub fn word_of(s: &[u8], a: usize, b: usize) -> Word
     requires { ⌜ (a ≤ b) × (b ≤ length (now s)) ⌝ }
-    ensures { λ r. ⌜ r ≡ wordOf (slice a b (now (s .entry))) ⌝ }
+    ensures { λ r. ⌜ IsWord (slice a b (now (s .entry))) r ⌝ }
 {
     match kind_of(s, a, b) {
         Kind::Comment => Word::None,

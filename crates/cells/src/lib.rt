@@ -137,7 +137,8 @@ fn read_part<'a, 'b>(
     was: State,
 ) -> State
     requires { ⌜ (a ≤ b) × (b ≤ length (now s)) × (n ≤ length (now cells)) ⌝ }
-    ensures { λ r. ⌜ Stands n r (now (cells .exit)) (readPart satisfiable (readingFrom was (take n (now (cells .entry)))) (numberOf (slice a b (now (s .entry))))) ⌝ }
+    ensures { λ r. ⌜ Stands n r (now (cells .exit)) (readPart satisfiable (readingFrom was (take n (now (cells .entry))))
+        (numberOf (slice a b (now (s .entry))))) ⌝ }
 {
     match read_number(s, a, b) {
         Number::None => unformed(),
@@ -155,7 +156,8 @@ fn read_parts<'a, 'b>(
     was: State,
 ) -> State
     requires { ⌜ (a ≤ b) × (b ≤ length (now s)) × (n ≤ length (now cells)) ⌝ }
-    ensures { λ r. ⌜ Stands n r (now (cells .exit)) (readParts satisfiable (readingFrom was (take n (now (cells .entry)))) (split 32 (slice a b (now (s .entry))))) ⌝ }
+    ensures { λ r. ⌜ Stands n r (now (cells .exit)) (readParts satisfiable (readingFrom was (take n (now (cells .entry))))
+        (split 32 (slice a b (now (s .entry))))) ⌝ }
 {
     let mut state = was;
     let mut i = a;
@@ -259,7 +261,8 @@ fn judge(state: State, cells: &[u8], n: usize) -> usize
 // What stands from the place at on, behind SATISFIABLE.
 fn read_values<'a, 'b>(s: &'a [u8], at: usize, n: usize, cells: &'b mut [u8]) -> usize
     requires { ⌜ (at ≤ length (now s)) × (n ≤ length (now cells)) ⌝ }
-    ensures { λ r. ⌜ Told (decide satisfiable (readLines satisfiable (begin n) (ended LF (slice at (length (now (s .entry))) (now (s .entry)))))) n (now (cells .exit)) r ⌝ }
+    ensures { λ r. ⌜ Told (decide satisfiable (readLines satisfiable (begin n) (ended LF (slice at (length (now (s .entry))) (now (s .entry)))))) n
+        (now (cells .exit)) r ⌝ }
 {
     clear(cells, n);
     let state = read_lines(s, at, cells, n);

@@ -2,7 +2,7 @@
 -- By the laws of the index and of sets.
 use mathlib.Core.Path.{_≡_, sym, ap, _∙_}
 use mathlib.Core.List.{List, [], _∷_}
-use Prim.Native.Nat.{ℕ, _+_, _≤_, _<_}
+use Prim.Native.Nat.{ℕ, _+_, _*_, _≤_, _<_}
 use native.Mathlib.Omega.{arith}
 use lib.ListN.{length, getD, length-take}
 use Rattle.bitset.specs.Set.{membersBelow, members}
@@ -17,11 +17,11 @@ use Rattle.index.proofs.Looked.{step-meaning, job-meaning}
 use Rattle.shape.specs.Shape.{node, InNode}
 use Rattle.shape.proofs.Nodes.{sizes, node-steps, node-jobs, child-known}
 
--- the count of members below a number is its place, and at most 64
-pub rank-is : {r : ℕ} (w i : ℕ) → r ≡ length (membersBelow (w ∷ []) i) → (r ≡ rank (members (w ∷ [])) i) × (r ≤ 64)
-rank-is {r} w i e = (
-  e ∙ sym (members-rank (w ∷ []) i),
-  omega (arith, e, ap length (promises .first (w ∷ []) i), length-take (length (membersBelow (w ∷ []) i)) (members (w ∷ [])), promises .at-most (w ∷ [])),
+-- the count of members below a number is its place, and at most 64 a word
+pub rank-is : {r : ℕ} (ws : List ℕ) (i : ℕ) → r ≡ length (membersBelow ws i) → (r ≡ rank (members ws) i) × (r ≤ 64 * length ws)
+rank-is {r} ws i e = (
+  e ∙ sym (members-rank ws i),
+  omega (arith, e, ap length (promises .first ws i), length-take (length (membersBelow ws i)) (members ws), promises .at-most ws),
 )
 
 module _ {T : Table} {ix : List ℕ} {n : ℕ} (i : InNode T ix n) where

@@ -1,4 +1,4 @@
--- Inside the encoding: the parts of a clause, as the code writes them. Nothing to believe.
+-- Inside the encoding, nothing to believe: the parts of a clause, as the code writes them.
 -- Assumes nothing.
 use mathlib.Core.Bool.{Bool, cond}
 use mathlib.Core.List.{List, [], map}

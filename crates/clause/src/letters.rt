@@ -10,7 +10,8 @@ ghost use Rattle.table.specs.Layout.{taskFrom};
 ghost use Rattle.sheet.specs.Sheet.{tableIn};
 ghost use Rattle.places.specs.Nest.{at};
 ghost use Rattle.places.specs.Flat.{tasksAt, methodVarsAt};
-ghost use Rattle.places.specs.ClausePlace.{methodAt, methodsOf, jobOfMethod, bodyTask, inherited as inheritedPlace, up as upPlace, rowLen, placeAt, literals as literalsOf};
+ghost use Rattle.places.specs.ClausePlace.{methodAt, methodsOf, jobOfMethod, bodyTask, inherited as inheritedPlace, up as upPlace, rowLen, placeAt};
+ghost use Rattle.places.specs.ClausePlace.{literals as literalsOf};
 ghost use Rattle.index.specs.Index.{source};
 ghost use Rattle.shape.specs.Shape.{node, InNode, InGroup};
 ghost use Rattle.clause.specs.Parts.{codes, litsOf};
@@ -88,7 +89,8 @@ fn put_methods<'a, 'b>(
     j: usize,
 ) -> usize
     requires { ⌜ InNode (tableIn (now ws)) (now ix) n × (at + 128 ≤ length (now out)) ⌝ }
-    ensures { λ r. ⌜ Wrote (now (out .entry)) at (codes (allPos (filter (λ m. eqb (jobOf (tableIn (now (ws .entry))) (m .1)) j) (methodVarsAt (node (tableIn (now (ws .entry))) n))))) (now (out .exit)) r ⌝ }
+    ensures { λ r. ⌜ Wrote (now (out .entry)) at (codes (allPos (filter (λ m. eqb (jobOf (tableIn (now (ws .entry))) (m .1)) j)
+        (methodVarsAt (node (tableIn (now (ws .entry))) n))))) (now (out .exit)) r ⌝ }
 {
     let k = shape::methods_of(ws, ix, n);
     let mut a = at;
@@ -157,7 +159,9 @@ fn body_task<'a, 'b>(
     x: usize,
     y: usize,
 ) -> usize
-    requires { ⌜ InNode (tableIn (now ws)) (now ix) n × (x < length ((node (tableIn (now ws)) n) .methods)) × (y < length ((node (tableIn (now ws)) n) .children)) × (y < length (bodyOf (tableIn (now ws)) (methodAt (node (tableIn (now ws)) n) x))) × (136 ≤ length (now out)) ⌝ }
+    requires { ⌜ InNode (tableIn (now ws)) (now ix) n × (x < length ((node (tableIn (now ws)) n) .methods))
+        × (y < length ((node (tableIn (now ws)) n) .children)) × (y < length (bodyOf (tableIn (now ws)) (methodAt (node (tableIn (now ws)) n) x)))
+        × (136 ≤ length (now out)) ⌝ }
     ensures { λ r. ⌜ Wrote (now (out .entry)) 0 (codes (literalsOf (source (tableIn (now (ws .entry)))) (bodyTask n x y))) (now (out .exit)) r ⌝ }
 {
     let t = sheet::task(ws, shape::method(ws, ix, n, x), y);
@@ -167,7 +171,8 @@ fn body_task<'a, 'b>(
 
 // (f) step x, then the same step at the first child.
 fn inherited<'a, 'b>(ws: &'a [u64], ix: &'a [u64], out: &'b mut [u64], n: usize, x: usize) -> usize
-    requires { ⌜ InNode (tableIn (now ws)) (now ix) n × (x < length ((node (tableIn (now ws)) n) .steps)) × (0 < length ((node (tableIn (now ws)) n) .children)) × (136 ≤ length (now out)) ⌝ }
+    requires { ⌜ InNode (tableIn (now ws)) (now ix) n × (x < length ((node (tableIn (now ws)) n) .steps))
+        × (0 < length ((node (tableIn (now ws)) n) .children)) × (136 ≤ length (now out)) ⌝ }
     ensures { λ r. ⌜ Wrote (now (out .entry)) 0 (codes (literalsOf (source (tableIn (now (ws .entry)))) (inheritedPlace n x))) (now (out .exit)) r ⌝ }
 {
     let s = step_at(ws, ix, n, x);
@@ -194,7 +199,8 @@ fn two_tasks<'a, 'b>(
     i: usize,
 ) -> usize
     requires { ⌜ InNode (tableIn (now ws)) (now ix) n × (x ≤ 128) × (i ≤ 128) × (136 ≤ length (now out)) ⌝ }
-    ensures { λ r. ⌜ Wrote (now (out .entry)) 0 (codes (literalsOf (source (tableIn (now (ws .entry)))) (placeAt (source (tableIn (now (ws .entry)))) (at 1 n 0 x 0 i)))) (now (out .exit)) r ⌝ }
+    ensures { λ r. ⌜ Wrote (now (out .entry)) 0 (codes (literalsOf (source (tableIn (now (ws .entry))))
+        (placeAt (source (tableIn (now (ws .entry)))) (at 1 n 0 x 0 i)))) (now (out .exit)) r ⌝ }
 {
     let v = own_variable(ws, ix, n, x);
     pair(out, v, own_variable(ws, ix, n, x + (i + 1)), false)
@@ -209,7 +215,8 @@ fn two_methods<'a, 'b>(
     i: usize,
 ) -> usize
     requires { ⌜ InNode (tableIn (now ws)) (now ix) n × (x < 128) × (i < 128) × (136 ≤ length (now out)) ⌝ }
-    ensures { λ r. ⌜ Wrote (now (out .entry)) 0 (codes (literalsOf (source (tableIn (now (ws .entry)))) (placeAt (source (tableIn (now (ws .entry)))) (at 1 n 1 x 0 i)))) (now (out .exit)) r ⌝ }
+    ensures { λ r. ⌜ Wrote (now (out .entry)) 0 (codes (literalsOf (source (tableIn (now (ws .entry))))
+        (placeAt (source (tableIn (now (ws .entry)))) (at 1 n 1 x 0 i)))) (now (out .exit)) r ⌝ }
 {
     let v = method_variable(ws, ix, n, x);
     pair(out, v, method_variable(ws, ix, n, x + (i + 1)), false)
@@ -225,8 +232,10 @@ fn body<'a, 'b>(
     y: usize,
     i: usize,
 ) -> usize
-    requires { ⌜ InNode (tableIn (now ws)) (now ix) n × (x < length ((node (tableIn (now ws)) n) .methods)) × (y < length ((node (tableIn (now ws)) n) .children)) × (i ≤ 128) × (136 ≤ length (now out)) ⌝ }
-    ensures { λ r. ⌜ Wrote (now (out .entry)) 0 (codes (literalsOf (source (tableIn (now (ws .entry)))) (placeAt (source (tableIn (now (ws .entry)))) (at 1 n 4 x y i)))) (now (out .exit)) r ⌝ }
+    requires { ⌜ InNode (tableIn (now ws)) (now ix) n × (x < length ((node (tableIn (now ws)) n) .methods))
+        × (y < length ((node (tableIn (now ws)) n) .children)) × (i ≤ 128) × (136 ≤ length (now out)) ⌝ }
+    ensures { λ r. ⌜ Wrote (now (out .entry)) 0 (codes (literalsOf (source (tableIn (now (ws .entry))))
+        (placeAt (source (tableIn (now (ws .entry)))) (at 1 n 4 x y i)))) (now (out .exit)) r ⌝ }
 {
     if shape::is_named(ws, ix, n, x, y) {
         return body_task(ws, ix, out, n, x, y);
@@ -244,8 +253,10 @@ fn pass<'a, 'b>(
     y: usize,
     i: usize,
 ) -> usize
-    requires { ⌜ InNode (tableIn (now ws)) (now ix) n × (x < length ((node (tableIn (now ws)) n) .steps)) × (y < length ((node (tableIn (now ws)) n) .children)) × (i ≤ 128) × (136 ≤ length (now out)) ⌝ }
-    ensures { λ r. ⌜ Wrote (now (out .entry)) 0 (codes (literalsOf (source (tableIn (now (ws .entry)))) (placeAt (source (tableIn (now (ws .entry)))) (at 1 n 5 x y i)))) (now (out .exit)) r ⌝ }
+    requires { ⌜ InNode (tableIn (now ws)) (now ix) n × (x < length ((node (tableIn (now ws)) n) .steps))
+        × (y < length ((node (tableIn (now ws)) n) .children)) × (i ≤ 128) × (136 ≤ length (now out)) ⌝ }
+    ensures { λ r. ⌜ Wrote (now (out .entry)) 0 (codes (literalsOf (source (tableIn (now (ws .entry))))
+        (placeAt (source (tableIn (now (ws .entry)))) (at 1 n 5 x y i)))) (now (out .exit)) r ⌝ }
 {
     if y == 0 {
         return inherited(ws, ix, out, n, x);
@@ -266,7 +277,8 @@ pub fn node_clause<'a, 'b>(
     i: usize,
 ) -> usize
     requires { ⌜ InGroup (tableIn (now ws)) (now ix) 1 n g × (i < rowLen (source (tableIn (now ws))) 1 n g x y) × (136 ≤ length (now out)) ⌝ }
-    ensures { λ r. ⌜ Wrote (now (out .entry)) 0 (codes (literalsOf (source (tableIn (now (ws .entry)))) (placeAt (source (tableIn (now (ws .entry)))) (at 1 n g x y i)))) (now (out .exit)) r ⌝ }
+    ensures { λ r. ⌜ Wrote (now (out .entry)) 0 (codes (literalsOf (source (tableIn (now (ws .entry))))
+        (placeAt (source (tableIn (now (ws .entry)))) (at 1 n g x y i)))) (now (out .exit)) r ⌝ }
 {
     match g {
         0 => two_tasks(ws, ix, out, n, x, i),

@@ -29,7 +29,8 @@ pub fn literals<'a, 'b>(
     i: usize,
 ) -> usize
     requires { ⌜ InGroup (tableIn (now ws)) (now ix) r n g × (i < rowLen (source (tableIn (now ws))) r n g x y) × (136 ≤ length (now out)) ⌝ }
-    ensures { λ k. ⌜ Wrote (now (out .entry)) 0 (map codeOf (literalsOf (source (tableIn (now (ws .entry)))) (placeAt (source (tableIn (now (ws .entry)))) (at r n g x y i)))) (now (out .exit)) k ⌝ }
+    ensures { λ k. ⌜ Wrote (now (out .entry)) 0 (map codeOf (literalsOf (source (tableIn (now (ws .entry))))
+        (placeAt (source (tableIn (now (ws .entry)))) (at r n g x y i)))) (now (out .exit)) k ⌝ }
 {
     match r {
         0 => letters::put_job(ws, ix, out, 0, 0, sheet::root(ws)),

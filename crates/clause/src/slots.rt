@@ -9,7 +9,8 @@ ghost use Rattle.planning.specs.Accepted.{Accepted};
 ghost use Rattle.planning.specs.Clause.{allPos, drops as dropsFact};
 ghost use Rattle.sheet.specs.Sheet.{tableIn};
 ghost use Rattle.places.specs.Nest.{at};
-ghost use Rattle.places.specs.ClausePlace.{slotAt, start as startPlace, fall as fallPlace, rise as risePlace, effectFacts, rowLen, placeAt, literals as literalsOf};
+ghost use Rattle.places.specs.ClausePlace.{slotAt, start as startPlace, fall as fallPlace, rise as risePlace, effectFacts, rowLen, placeAt};
+ghost use Rattle.places.specs.ClausePlace.{literals as literalsOf};
 ghost use Rattle.index.specs.Index.{source};
 ghost use Rattle.shape.specs.Shape.{Indexed, InSlot, InGroup};
 ghost use Rattle.clause.specs.Parts.{codes, moves as movesFact};
@@ -58,7 +59,8 @@ fn effect<'a, 'b>(
     i: usize,
 ) -> usize
     requires { ⌜ InGroup (tableIn (now ws)) (now ix) 3 n 0 × (i < rowLen (source (tableIn (now ws))) 3 n 0 x y) × (136 ≤ length (now out)) ⌝ }
-    ensures { λ r. ⌜ Wrote (now (out .entry)) 0 (codes (literalsOf (source (tableIn (now (ws .entry)))) (placeAt (source (tableIn (now (ws .entry)))) (at 3 n 0 x y i)))) (now (out .exit)) r ⌝ }
+    ensures { λ r. ⌜ Wrote (now (out .entry)) 0 (codes (literalsOf (source (tableIn (now (ws .entry))))
+        (placeAt (source (tableIn (now (ws .entry)))) (at 3 n 0 x y i)))) (now (out .exit)) r ⌝ }
 {
     let v = shape::slot_variable(ws, ix, n, x);
     let f = effect_fact(ws, shape::slot_step(ws, ix, n, x), y, i);
@@ -112,7 +114,8 @@ fn put_steps<'a, 'b>(
     rising: bool,
 ) -> usize
     requires { ⌜ InSlot (tableIn (now ws)) (now ix) n × (at + 64 ≤ length (now out)) ⌝ }
-    ensures { λ r. ⌜ Wrote (now (out .entry)) at (codes (allPos (filter (λ x. movesFact (tableIn (now (ws .entry))) rising f (x .1)) (slotAt (source (tableIn (now (ws .entry)))) n)))) (now (out .exit)) r ⌝ }
+    ensures { λ r. ⌜ Wrote (now (out .entry)) at (codes (allPos (filter (λ x. movesFact (tableIn (now (ws .entry))) rising f (x .1))
+        (slotAt (source (tableIn (now (ws .entry)))) n)))) (now (out .exit)) r ⌝ }
 {
     let k = shape::slot_size(ws, ix, n);
     // The slot's first variable, and the word that says what it stands for: those behind it follow.
@@ -157,7 +160,8 @@ pub fn slot_clause<'a, 'b>(
     i: usize,
 ) -> usize
     requires { ⌜ InGroup (tableIn (now ws)) (now ix) 3 n g × (i < rowLen (source (tableIn (now ws))) 3 n g x y) × (136 ≤ length (now out)) ⌝ }
-    ensures { λ r. ⌜ Wrote (now (out .entry)) 0 (codes (literalsOf (source (tableIn (now (ws .entry)))) (placeAt (source (tableIn (now (ws .entry)))) (at 3 n g x y i)))) (now (out .exit)) r ⌝ }
+    ensures { λ r. ⌜ Wrote (now (out .entry)) 0 (codes (literalsOf (source (tableIn (now (ws .entry))))
+        (placeAt (source (tableIn (now (ws .entry)))) (at 3 n g x y i)))) (now (out .exit)) r ⌝ }
 {
     if g == 0 {
         return effect(ws, ix, out, n, x, y, i);

@@ -16,3 +16,7 @@ module _ (h : HandedBack) (lent : List ℕ) where
   laid values all e =
       subst (λ (k : HandedBack). Crossed k lent values 0) e
       (record { question = refl; numbers = rw (all, append-nil) })
+
+-- an answer that is the call's
+pub crossed : {h k : HandedBack} {lent lent′ : List ℕ} {r : ℕ} → h ≡ k → Crossed h lent lent′ r → Crossed k lent lent′ r
+crossed {h} {k} {lent} {lent′} {r} e c = subst (λ (m : HandedBack). Crossed m lent lent′ r) e c

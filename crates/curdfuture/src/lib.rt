@@ -1,11 +1,11 @@
-// The five calls for other languages, as C functions in one static library. An enum does not cross that border: each call returns the
+// The calls for other languages, as C functions in one static library. An enum does not cross that border: each call returns the
 // number of the question that is not met, or 0 where all are, and lays its values into numbers that the caller lends; on a refusal these
 // too stay as they were. A slice is passed as a pointer and a length, a record of the tree as five 64-bit words in the order of its fields. The
 // functions over records are straight lines, proved by hand: the call, and a covered function that tells its answer as numbers.
 ghost use mathlib.Core.Path.{_≡_};
 ghost use mathlib.Core.List.{[], _∷_};
-ghost use Rattle.encoding.specs.Calls.{checking, builtFrom, building, treeAfter, textFrom, writing, textAfter};
-ghost use Rattle.answer.specs.Calls.{takenFrom, taking, valuesAfter, listedFrom, showing, listingAfter};
+ghost use Rattle.encoding.specs.Calls.{checking, builtFrom, building, treeAfter, textFrom, writing, textAfter, writingFormula, formulaAfter};
+ghost use Rattle.answer.specs.Calls.{takenFrom, taking, valuesAfter, listedFrom, showing, listingAfter, showingAnswer, answerListingAfter};
 ghost use Rattle.curdfuture.specs.Numbers.{Crossed};
 use answer::Listed;
 use answer::Taken;
@@ -22,7 +22,8 @@ pub extern "C" fn curdfuture_check<'a, 'b, 'c, 'd>(
     variables: &'c mut usize,
     clauses: &'d mut usize,
 ) -> usize
-    ensures { λ r. ⌜ Crossed (checking (now (file .entry))) (now (nodes .entry) ∷ now (variables .entry) ∷ now (clauses .entry) ∷ []) (now (nodes .exit) ∷ now (variables .exit) ∷ now (clauses .exit) ∷ []) r ⌝ }
+    ensures { λ r. ⌜ Crossed (checking (now (file .entry))) (now (nodes .entry) ∷ now (variables .entry) ∷ now (clauses .entry) ∷ [])
+        (now (nodes .exit) ∷ now (variables .exit) ∷ now (clauses .exit) ∷ []) r ⌝ }
 {
     let checked = encoding::check(file);
     match checked {
@@ -56,7 +57,8 @@ pub extern "C" fn curdfuture_build<'a, 'b, 'c>(
     tree: &'b mut [Node],
     nodes: &'c mut usize,
 ) -> usize
-    ensures { λ r. ⌜ Crossed (building (now (file .entry)) (now (tree .entry))) (now (nodes .entry) ∷ []) (now (nodes .exit) ∷ []) r × (now (tree .exit) ≡ treeAfter (now (file .entry)) (now (tree .entry))) ⌝ }
+    ensures { λ r. ⌜ Crossed (building (now (file .entry)) (now (tree .entry))) (now (nodes .entry) ∷ []) (now (nodes .exit) ∷ []) r
+        × (now (tree .exit) ≡ treeAfter (now (file .entry)) (now (tree .entry))) ⌝ }
 {
     let built = encoding::build(file, tree);
     tell_built(built, nodes)
@@ -86,9 +88,28 @@ pub extern "C" fn curdfuture_write_text<'a, 'b, 'c, 'd, 'e>(
     used: &'d mut usize,
     next: &'e mut usize,
 ) -> usize
-    ensures { λ r. ⌜ Crossed (writing (now (file .entry)) (now (tree .entry)) line (now (text .entry))) (now (used .entry) ∷ now (next .entry) ∷ []) (now (used .exit) ∷ now (next .exit) ∷ []) r × (now (text .exit) ≡ textAfter (now (file .entry)) (now (tree .entry)) line (now (text .entry))) ⌝ }
+    ensures { λ r. ⌜ Crossed (writing (now (file .entry)) (now (tree .entry)) line (now (text .entry))) (now (used .entry) ∷ now (next .entry) ∷ [])
+        (now (used .exit) ∷ now (next .exit) ∷ []) r
+        × (now (text .exit) ≡ textAfter (now (file .entry)) (now (tree .entry)) line (now (text .entry))) ⌝ }
 {
     let written = encoding::write_text(file, tree, line, text);
+    tell_text(written, used, next)
+}
+
+// Writes the formula's text from a line on, with no tree lent: the bytes used and the next line.
+#[no_mangle]
+pub extern "C" fn curdfuture_write_formula<'a, 'b, 'c, 'd>(
+    file: &'a [u8],
+    line: usize,
+    text: &'b mut [u8],
+    used: &'c mut usize,
+    next: &'d mut usize,
+) -> usize
+    ensures { λ r. ⌜ Crossed (writingFormula (now (file .entry)) line (now (text .entry)))
+        (now (used .entry) ∷ now (next .entry) ∷ []) (now (used .exit) ∷ now (next .exit) ∷ []) r
+        × (now (text .exit) ≡ formulaAfter (now (file .entry)) line (now (text .entry))) ⌝ }
+{
+    let written = encoding::write_formula(file, line, text);
     tell_text(written, used, next)
 }
 
@@ -114,7 +135,9 @@ pub extern "C" fn curdfuture_take_answer<'a, 'b, 'c, 'd, 'e>(
     values: &'d mut [u8],
     count: &'e mut usize,
 ) -> usize
-    ensures { λ r. ⌜ Crossed (taking (now (file .entry)) (now (tree .entry)) (now (reply .entry)) (now (values .entry))) (now (count .entry) ∷ []) (now (count .exit) ∷ []) r × (now (values .exit) ≡ valuesAfter (now (file .entry)) (now (tree .entry)) (now (reply .entry)) (now (values .entry))) ⌝ }
+    ensures { λ r. ⌜ Crossed (taking (now (file .entry)) (now (tree .entry)) (now (reply .entry)) (now (values .entry))) (now (count .entry) ∷ [])
+        (now (count .exit) ∷ []) r
+        × (now (values .exit) ≡ valuesAfter (now (file .entry)) (now (tree .entry)) (now (reply .entry)) (now (values .entry))) ⌝ }
 {
     let taken = answer::take_answer(file, tree, reply, values);
     tell_taken(taken, count)
@@ -142,8 +165,26 @@ pub extern "C" fn curdfuture_list_procedure<'a, 'b, 'c, 'd, 'e>(
     listing: &'d mut [u8],
     used: &'e mut usize,
 ) -> usize
-    ensures { λ r. ⌜ Crossed (showing (now (file .entry)) (now (tree .entry)) (now (values .entry)) (now (listing .entry))) (now (used .entry) ∷ []) (now (used .exit) ∷ []) r × (now (listing .exit) ≡ listingAfter (now (file .entry)) (now (tree .entry)) (now (values .entry)) (now (listing .entry))) ⌝ }
+    ensures { λ r. ⌜ Crossed (showing (now (file .entry)) (now (tree .entry)) (now (values .entry)) (now (listing .entry))) (now (used .entry) ∷ [])
+        (now (used .exit) ∷ []) r
+        × (now (listing .exit) ≡ listingAfter (now (file .entry)) (now (tree .entry)) (now (values .entry)) (now (listing .entry))) ⌝ }
 {
     let listed = answer::list_procedure(file, tree, values, listing);
+    tell_listed(listed, used)
+}
+
+// Lists the procedure of an answer, with no tree and no values lent: the bytes used.
+#[no_mangle]
+pub extern "C" fn curdfuture_list_answer<'a, 'b, 'c, 'd>(
+    file: &'a [u8],
+    reply: &'b [u8],
+    listing: &'c mut [u8],
+    used: &'d mut usize,
+) -> usize
+    ensures { λ r. ⌜ Crossed (showingAnswer (now (file .entry)) (now (reply .entry)) (now (listing .entry)))
+        (now (used .entry) ∷ []) (now (used .exit) ∷ []) r
+        × (now (listing .exit) ≡ answerListingAfter (now (file .entry)) (now (reply .entry)) (now (listing .entry))) ⌝ }
+{
+    let listed = answer::list_answer(file, reply, listing);
     tell_listed(listed, used)
 }

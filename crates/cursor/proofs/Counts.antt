@@ -24,7 +24,7 @@ use Rattle.places.proofs.Walk.{left-clause}
 use Rattle.index.specs.Index.{source}
 use Rattle.shape.specs.Shape.{Indexed, node, InNode, InSlot, InGroup}
 use Rattle.shape.proofs.Groups.{in-row}
-use Rattle.cursor.specs.Cursor.{posOf, ofPos, leftIn, In, Moved, NodePassed, SoughtRow, Found}
+use Rattle.cursor.specs.Cursor.{posOf, ofPos, leftIn, cursorOf, In, Moved, NodePassed, SoughtRow, Found}
 use Rattle.cursor.specs.declared.Cursor.{Cursor}
 use Rattle.cursor.proofs.Moves.{left-at-end, stands-of, start-stands}
 
@@ -214,20 +214,25 @@ module _ {T : Table} {j k : ℕ} {c : Cursor} (s : SoughtRow T j k c) (h : c .ru
       }
 
   pub found-here : k < c .len → Found T j (record { rule = c .rule; node = c .node; group = c .group; x = c .x; y = c .y; i = k; len = c .len })
+  unfolding shape
   found-here l =
       let t = stands-of (s .inside) h in
       let z : 0 + k ≡ k = omega arith in
+      let q = ap (λ (i : ℕ). left (shape (source T)) (at (c .rule) (c .node) (c .group) (c .x) (c .y) i)) (sym z)
+      ∙ sym (along-row (source T) (c .rule) (c .node) (c .group) (c .x) (c .y) k 0 (omega (arith, e))) ∙ here .rest in
+      let f = left-clause (shape (source T)) (c .rule) (c .node) (c .group) (c .x) (c .y) k (omega (arith, e)) in
       record {
-        same = ap (λ (i : ℕ). left (shape (source T)) (at (c .rule) (c .node) (c .group) (c .x) (c .y) i)) (sym z)
-            ∙ sym (along-row (source T) (c .rule) (c .node) (c .group) (c .x) (c .y) k 0 (omega (arith, e))) ∙ here .rest;
+        is = ap (λ (n : ℕ). record { rule = c .rule; node = c .node; group = c .group; x = c .x; y = c .y; i = k; len = n }) e ∙ ap (cursorOf T) (sym f ∙ q);
+        same = q;
         inside = inl (record { rule = t .rule; node = t .node; group = t .group; x = t .x; y = t .y; len = t .len });
       }
 
 pub found-end : {T : Table} {j k : ℕ} {c : Cursor} → SoughtRow T j k c → 4 ≤ c .rule → Found T j c
-found-end {T} {j} {k} {c} s h = record { same = go (s .inside); inside = s .inside }
+found-end {T} {j} {k} {c} s h = go (s .inside)
   where
-    go : In T c → leftIn T c ≡ drop j (positions (shape (source T)))
+    go : In T c → Found T j c
     go (inl t) = absurd (omega (arith, t .rule))
     go (inr e) =
         let q : leftIn T c ≡ [] = ap (leftIn T) e ∙ left-at-end T in
-        q ∙ sym (drop-nil k) ∙ ap (drop k) (sym q) ∙ s .seeking .rest
+        let d : [] ≡ drop j (positions (shape (source T))) = sym (drop-nil k) ∙ ap (drop k) (sym q) ∙ s .seeking .rest in
+        record { is = e ∙ ap (cursorOf T) d; same = q ∙ d; inside = inr e }

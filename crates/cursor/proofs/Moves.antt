@@ -1,15 +1,19 @@
 -- The cursor's moves: one law for each way that the code goes on.
 -- By the laws of what is left from a place on.
 use mathlib.Core.Path.{_≡_, refl, sym, ap, _∙_}
-use mathlib.Core.List.{List, []}
+use mathlib.Core.Bool.{false}
+use mathlib.Core.List.{List, [], map}
 use mathlib.Core.Logic.{inl, inr}
 use Prim.Native.Nat.{ℕ, zero, suc, _+_, _-_, _*_, _≤_, _<_}
 use native.Mathlib.Omega.{arith}
+use lib.Dec.{ltb}
+use borrow.Author.Tests.{lt-ltb, le-ltb, eq-eqb, ne-eqb}
 use Rattle.lists.proofs.Order.{ne-lt}
 use Rattle.planning.specs.Table.{Table}
 use Rattle.planning.specs.Place.{rootPlace}
-use Rattle.places.specs.Nest.{at, left}
-use Rattle.places.specs.ClausePlace.{Source, shape, groupAt, groupsIn, nodesIn, rowLen}
+use Rattle.planning.specs.Clause.{Clause as PlanningClause}
+use Rattle.places.specs.Nest.{Pos, at, left}
+use Rattle.places.specs.ClausePlace.{Source, shape, groupAt, groupsIn, nodesIn, rowLen, literals, placeAt}
 use Rattle.places.proofs.Formula.{good}
 use Rattle.places.proofs.Walk.{left-clause, left-row, left-column, left-group, left-node}
 use Rattle.places.proofs.Total.{skip-rule, skip-last}
@@ -18,7 +22,7 @@ use Rattle.index.proofs.Known.{nodes-count}
 use Rattle.shape.specs.Shape.{Indexed, InGroup}
 use Rattle.shape.proofs.Nodes.{few-nodes, few-slots}
 use Rattle.tree.proofs.Visits.{nodes-some}
-use Rattle.cursor.specs.Cursor.{ofPos, leftIn, answerOf, nextOf, Stands, atEnd, In, Handed, rowEnd, Moved, NodePassed}
+use Rattle.cursor.specs.Cursor.{ofPos, leftIn, answerOf, nextOf, Means, Stands, atEnd, In, Handed, rowEnd, Moved, NodePassed}
 use Rattle.cursor.specs.declared.Cursor.{Cursor}
 use Rattle.cursor.specs.declared.Next.the-variants.{Clause, End}
 
@@ -91,6 +95,7 @@ module _ {T : Table} {ix : List ℕ} {c : Cursor} (i : Indexed T ix) (s : Stands
 
   pub node-next : {k : ℕ} → k ≡ nodesIn (source T) (c .rule) → c .node + 1 < k → NodePassed T c (ofPos T (at (c .rule) (c .node + 1) 0 0 0 0))
   node-next {k} e h = record {
+    is = sym (rw (lt-ltb (c .node + 1) (nodesIn (source T) (c .rule)) (omega (arith, e))));
     same = refl;
     less = under ((4 - c .rule) * 100000000000) (fall-n (c .node) ((8 - c .group) * 100000 + ((128 - c .x) * 100 + (8 - c .y))) few);
     inside = inl (start-stands T (c .rule) (c .node + 1) (s .rule) (omega arith));
@@ -98,11 +103,15 @@ module _ {T : Table} {ix : List ℕ} {c : Cursor} (i : Indexed T ix) (s : Stands
   }
 
   module _ {k : ℕ} (e : k ≡ nodesIn (source T) (c .rule)) (last : k ≤ c .node + 1) where
+    no-node : ltb (c .node + 1) (nodesIn (source T) (c .rule)) ≡ false
+    no-node = le-ltb (c .node + 1) (nodesIn (source T) (c .rule)) (omega (arith, e))
+
     pub rule-last : c .rule + 1 ≡ 4 → NodePassed T c atEnd
     rule-last q =
         let z : c .rule ≡ 3 = omega arith in
         let l : nodesIn (source T) (c .rule) ≤ c .node + 1 = omega (arith, e) in
         record {
+          is = sym (rw (no-node, eq-eqb (c .rule + 1) 4 q));
           same = rw z (skip-last (source T) (c .node + 1) (rw z at l)) ∙ sym (left-at-end T);
           less = omega (arith, s .rule);
           inside = inr refl;
@@ -117,6 +126,7 @@ module _ {T : Table} {ix : List ℕ} {c : Cursor} (i : Indexed T ix) (s : Stands
         let some : 0 < m = ne-lt (omega arith) (λ w. v (sym w)) in
         let l : c .rule < 3 = omega (arith, ne-lt (omega (arith, s .rule)) u) in
         record {
+          is = sym (rw (no-node, ne-eqb (c .rule + 1) 4 u, ne-eqb (nodesIn (source T) (c .rule + 1)) 0 (λ w. v (f ∙ w))));
           same = passed l;
           less = fall-r (c .rule) ((1024 - c .node) * 10000000 + ((8 - c .group) * 100000 + ((128 - c .x) * 100 + (8 - c .y)))) (s .rule);
           inside = inl (start-stands T (c .rule + 1) 0 (omega arith) (omega (arith, f, some)));
@@ -127,6 +137,7 @@ module _ {T : Table} {ix : List ℕ} {c : Cursor} (i : Indexed T ix) (s : Stands
     rule-empty u {m} f v =
         let l : c .rule < 3 = omega (arith, ne-lt (omega (arith, s .rule)) u) in
         record {
+          is = sym (rw (no-node, ne-eqb (c .rule + 1) 4 u, eq-eqb (nodesIn (source T) (c .rule + 1)) 0 (sym f ∙ v)));
           same = passed l ∙ nothing (c .rule) l (omega (arith, f));
           less = omega (arith, s .rule);
           inside = inr refl;
@@ -151,6 +162,7 @@ module _ {T : Table} {ix : List ℕ} {c : Cursor} (i : Indexed T ix) (s : Stands
       → Moved T c (ofPos T (at (c .rule) (c .node) (c .group) (c .x) (c .y + 1) 0))
   unfolding shape
   row-next {ky} ys most h = record {
+    is = sym (rw (lt-ltb (c .y + 1) ((groupAt S (c .rule) (c .node) (c .group)) .ys) (omega (arith, ys))));
     same = left-row (shape S) (good S) (c .rule) (c .node) (c .group) (c .x) (c .y) len (omega arith);
     less = under ((4 - c .rule) * 100000000000) (under ((1024 - c .node) * 10000000) (under ((8 - c .group) * 100000) (fall-y ((128 - c .x) * 100) (c .y) (omega arith))));
     inside = inl (record { rule = s .rule; node = s .node; group = s .group; x = s .x; y = omega arith; len = refl });
@@ -158,10 +170,14 @@ module _ {T : Table} {ix : List ℕ} {c : Cursor} (i : Indexed T ix) (s : Stands
   }
 
   module _ {ky : ℕ} (ys : ky ≡ (groupAt S (c .rule) (c .node) (c .group)) .ys) (lastY : ky ≤ c .y + 1) where
+    no-row : ltb (c .y + 1) ((groupAt S (c .rule) (c .node) (c .group)) .ys) ≡ false
+    no-row = le-ltb (c .y + 1) ((groupAt S (c .rule) (c .node) (c .group)) .ys) (omega (arith, ys))
+
     pub column-next : {kx : ℕ} → kx ≡ (groupAt S (c .rule) (c .node) (c .group)) .xs → kx ≤ 128 → c .x + 1 < kx
         → Moved T c (ofPos T (at (c .rule) (c .node) (c .group) (c .x + 1) 0 0))
     unfolding shape
     column-next {kx} xs most h = record {
+      is = sym (rw (no-row, lt-ltb (c .x + 1) ((groupAt S (c .rule) (c .node) (c .group)) .xs) (omega (arith, xs))));
       same = left-column (shape S) (good S) (c .rule) (c .node) (c .group) (c .x) (c .y) len (omega arith) (omega (arith, ys));
       less = under ((4 - c .rule) * 100000000000) (under ((1024 - c .node) * 10000000) (under ((8 - c .group) * 100000) (fall-x (c .x) (8 - c .y) (omega arith))));
       inside = inl (record { rule = s .rule; node = s .node; group = s .group; x = omega arith; y = omega arith; len = refl });
@@ -169,9 +185,13 @@ module _ {T : Table} {ix : List ℕ} {c : Cursor} (i : Indexed T ix) (s : Stands
     }
 
     module _ {kx : ℕ} (xs : kx ≡ (groupAt S (c .rule) (c .node) (c .group)) .xs) (lastX : kx ≤ c .x + 1) {kg : ℕ} (gs : kg ≡ groupsIn (c .rule)) where
+      no-column : ltb (c .x + 1) ((groupAt S (c .rule) (c .node) (c .group)) .xs) ≡ false
+      no-column = le-ltb (c .x + 1) ((groupAt S (c .rule) (c .node) (c .group)) .xs) (omega (arith, xs))
+
       pub letter-next : c .group + 1 < kg → Moved T c (ofPos T (at (c .rule) (c .node) (c .group + 1) 0 0 0))
       unfolding shape
       letter-next h = record {
+        is = sym (rw (no-row, no-column, lt-ltb (c .group + 1) (groupsIn (c .rule)) (omega (arith, gs))));
         same = left-group (shape S) (good S) (c .rule) (c .node) (c .group) (c .x) (c .y) len (omega arith) (omega (arith, ys)) (omega (arith, xs)) (omega (arith, gs));
         less = under ((4 - c .rule) * 100000000000) (under ((1024 - c .node) * 10000000) (fall-g (c .group) ((128 - c .x) * 100 + (8 - c .y)) (omega (arith, s .group, few-letters (c .rule)))));
         inside = inl (record { rule = s .rule; node = s .node; group = omega (arith, gs); x = omega arith; y = omega arith; len = refl });
@@ -181,6 +201,7 @@ module _ {T : Table} {ix : List ℕ} {c : Cursor} (i : Indexed T ix) (s : Stands
       pub node-passed : kg ≤ c .group + 1 → {d : Cursor} → NodePassed T c d → Moved T c d
       unfolding shape
       node-passed h {d} p = record {
+        is = p .is ∙ sym (rw (no-row, no-column, le-ltb (c .group + 1) (groupsIn (c .rule)) (omega (arith, gs))));
         same = left-node (shape S) (good S) (c .rule) (c .node) (c .group) (c .x) (c .y) len (omega arith) (omega (arith, ys)) (omega (arith, xs)) (omega (arith, gs)) ∙ p .same;
         less = p .less;
         inside = p .inside;
@@ -208,22 +229,28 @@ pub upto-move : {T : Table} {c₀ c d : Cursor} → Upto T c₀ c → c .rule < 
 upto-move u r h m = record { same = u .same ∙ row-used (stands-of (u .inside) r) h ∙ m .same; inside = m .inside }
 
 module _ {T : Table} {c₀ c : Cursor} (u : Upto T c₀ c) where
+  -- the clauses of places
+  abbrev clausesOf : List Pos → List PlanningClause
+  clausesOf ps = map (literals (source T)) (map (placeAt (source T)) ps)
+
   -- the place behind c's, in its row
   abbrev behind : Cursor
   behind = record { rule = c .rule; node = c .node; group = c .group; x = c .x; y = c .y; i = c .i + 1; len = c .len }
 
-  pub hands-out : c .rule < 4 → c .i < c .len → (Clause c behind ≡ nextOf T c₀) × Handed T (Clause c behind)
+  pub hands-out : c .rule < 4 → c .i < c .len → (Clause c behind ≡ nextOf T c₀) × Handed T (Clause c behind) × Means T c₀ (Clause c behind)
   unfolding shape
   hands-out r h =
       let s = stands-of (u .inside) r in
-      let l : c .i < rowLen (source T) (c .rule) (c .node) (c .group) (c .x) (c .y) = omega (arith, s .len) in (
+      let l : c .i < rowLen (source T) (c .rule) (c .node) (c .group) (c .x) (c .y) = omega (arith, s .len) in
+      let q = u .same ∙ left-clause (shape (source T)) (c .rule) (c .node) (c .group) (c .x) (c .y) (c .i) l in (
         ap (λ (k : ℕ). Clause (record { rule = c .rule; node = c .node; group = c .group; x = c .x; y = c .y; i = c .i; len = k }) (record { rule = c .rule; node = c .node; group = c .group; x = c .x; y = c .y; i = c .i + 1; len = k })) (s .len)
-            ∙ sym (ap (answerOf T) (u .same ∙ left-clause (shape (source T)) (c .rule) (c .node) (c .group) (c .x) (c .y) (c .i) l)),
+            ∙ sym (ap (answerOf T) q),
         (record { stands = s; clause = l }, inl (record { rule = s .rule; node = s .node; group = s .group; x = s .x; y = s .y; len = s .len })),
+        ap clausesOf q,
       )
 
-  pub ends : 4 ≤ c .rule → (End ≡ nextOf T c₀) × Handed T End
-  ends h = (sym (ap (answerOf T) (u .same ∙ go (u .inside))), tt)
+  pub ends : 4 ≤ c .rule → (End ≡ nextOf T c₀) × Handed T End × Means T c₀ End
+  ends h = let q = u .same ∙ go (u .inside) in (sym (ap (answerOf T) q), tt, ap clausesOf q)
     where
       go : In T c → leftIn T c ≡ []
       go (inl s) = absurd (omega (arith, s .rule))

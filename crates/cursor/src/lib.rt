@@ -9,7 +9,7 @@ ghost use Rattle.places.specs.Total.{sumTo, pairCount, widthsTo, bodyCount, pas
 ghost use Rattle.sheet.specs.Sheet.{tableIn};
 ghost use Rattle.index.specs.Index.{source};
 ghost use Rattle.shape.specs.Shape.{node, Indexed, InNode, InSlot, InGroup};
-ghost use Rattle.cursor.specs.Cursor.{ofPos, atEnd, nextOf, Stands, In, Handed, Moved, NodePassed, SoughtRow, Found};
+ghost use Rattle.cursor.specs.Cursor.{ofPos, atEnd, nextOf, Means, Stands, In, Handed, Moved, NodePassed, SoughtRow, Found};
 
 // A place among the clauses: rule, node, letter, row and clause of the row; and how many clauses the row has, worked out once a row. As a
 // cursor it stands just behind the last clause handed out.
@@ -99,7 +99,7 @@ impl Cursor {
     // The next clause's place, and the cursor behind it.
     pub fn next(self, ws: &[u64], ix: &[u64]) -> Next
         requires { ⌜ Indexed (tableIn (now ws)) (now ix) × In (tableIn (now ws)) self ⌝ }
-        ensures { λ r. ⌜ (r ≡ nextOf (tableIn (now (ws .entry))) self) × Handed (tableIn (now (ws .entry))) r ⌝ }
+        ensures { λ r. ⌜ (r ≡ nextOf (tableIn (now (ws .entry))) self) × Handed (tableIn (now (ws .entry))) r × Means (tableIn (now (ws .entry))) self r ⌝ }
     {
         let mut c = self;
         while c.rule < 4 {
@@ -152,7 +152,8 @@ fn count_widths(ws: &[u64], ix: &[u64], n: usize) -> usize
 
 // (f) of one step: a clause for the first child, and one for each task variable of the others. `all` is how many the children have together.
 fn count_pass(ws: &[u64], ix: &[u64], n: usize, all: usize) -> usize
-    requires { ⌜ InNode (tableIn (now ws)) (now ix) n × (all ≡ widthsTo (node (tableIn (now ws)) n) (length ((node (tableIn (now ws)) n) .children))) × (all ≤ 1024) ⌝ }
+    requires { ⌜ InNode (tableIn (now ws)) (now ix) n × (all ≡ widthsTo (node (tableIn (now ws)) n) (length ((node (tableIn (now ws)) n) .children)))
+        × (all ≤ 1024) ⌝ }
     ensures { λ k. ⌜ (k ≡ passCount (node (tableIn (now (ws .entry))) n)) × (k ≤ 1025) ⌝ }
 {
     if shape::children_of(ws, ix, n) == 0 {
@@ -178,7 +179,8 @@ fn count_body(ws: &[u64], ix: &[u64], n: usize, x: usize) -> usize
 
 fn count_bodies(ws: &[u64], ix: &[u64], n: usize) -> usize
     requires { ⌜ InNode (tableIn (now ws)) (now ix) n ⌝ }
-    ensures { λ k. ⌜ (k ≡ sumTo (bodyCount (tableIn (now (ws .entry))) (node (tableIn (now (ws .entry))) n)) (length ((node (tableIn (now (ws .entry))) n) .methods))) × (k ≤ 131072) ⌝ }
+    ensures { λ k. ⌜ (k ≡ sumTo (bodyCount (tableIn (now (ws .entry))) (node (tableIn (now (ws .entry))) n))
+        (length ((node (tableIn (now (ws .entry))) n) .methods))) × (k ≤ 131072) ⌝ }
 {
     let e = shape::methods_of(ws, ix, n);
     let mut k: usize = 0;

@@ -23,42 +23,48 @@ use Rattle.nodes.proofs.Words.{lent-all, lent-enough}
 use Rattle.tree.specs.Words.{treeWords}
 use Rattle.text.specs.Lines.{PutText}
 use Rattle.text.specs.declared.Lines.{Lines}
-use Rattle.encoding.specs.Calls.{enoughText, textFrom, checking, building, questionsWriting, writing, textAfter}
+use Rattle.encoding.specs.Calls.{enoughText, textFrom, checking, building, questionsOfLine, questionsWriting, writing, textAfter, writingFormula, formulaAfter}
 use Rattle.encoding.specs.Flat.{wordsAfter}
-use Rattle.encoding.specs.Parts.{Lined}
+use Rattle.encoding.specs.Parts.{Lined, TreeLined}
 use Rattle.encoding.specs.declared.Text.{Text}
 use Rattle.encoding.specs.declared.Text.the-variants.{Refused, Written}
-use Rattle.questions.specs.Questions.{turnedDown, taken}
+use Rattle.questions.specs.Questions.{HandedBack, turnedDown, taken}
 use Rattle.questions.specs.Parts.{IsPrepared}
 use Rattle.questions.specs.declared.Prepared.{Prepared}
 use Rattle.questions.proofs.Asked.{asked-short, asked-unmet, asked-met}
 use Rattle.questions.proofs.Compared.{tree-words}
 
 -- Questions 10 and 11 ----------------------------------------------------------------------------------------------------------
-first-10 : (T : Table) (tree : List Node) (line : ℕ) → met10 T tree ≡ false → firstUnmet (questionsWriting tree line T) ≡ 10
-first-10 T tree line e = rw e
-
-module _ (T : Table) (tree : List Node) (line : ℕ) {o : List ℕ} where
-  pub other-tree : met10 T tree ≡ false → Lined T tree line o o (Refused 10)
-  other-tree e = let f = first-10 T tree line e in record { answer = sym (rw f); left = sym (rw f) }
-
-  pub past-last-line : {k : ℕ} → met10 T tree ≡ true → k ≡ length (formula T) → k < line → Lined T tree line o o (Refused 11)
-  past-last-line {k} e q h =
-      let f : firstUnmet (questionsWriting tree line T) ≡ 11 = rw (e, leb-no line (length (formula T)) (omega (arith, q))) in
+module _ (T : Table) (line : ℕ) {o : List ℕ} where
+  pub past-last-line : {k : ℕ} → k ≡ length (formula T) → k < line → Lined T line o o (Refused 11)
+  past-last-line {k} q h =
+      let f : firstUnmet (questionsOfLine line T) ≡ 11 = rw (leb-no line (length (formula T)) (omega (arith, q))) in
       record { answer = sym (rw f); left = sym (rw f) }
 
-  pub lined : {k : ℕ} {o′ : List ℕ} {l : Lines} → met10 T tree ≡ true → k ≡ length (formula T) → line ≤ k → PutText T line o o′ l → Lined T tree line o o′ (Written (l .used) (l .next))
-  lined {k} {o′} {l} e q h p =
-      let f : firstUnmet (questionsWriting tree line T) ≡ 0 = rw (e, leb-in line (length (formula T)) (omega (arith, q))) in
+  pub lined : {k : ℕ} {o′ : List ℕ} {l : Lines} → k ≡ length (formula T) → line ≤ k → PutText T line o o′ l → Lined T line o o′ (Written (l .used) (l .next))
+  lined {k} {o′} {l} q h p =
+      let f : firstUnmet (questionsOfLine line T) ≡ 0 = rw (leb-in line (length (formula T)) (omega (arith, q))) in
       let u : l .used ≡ bytesUsed T line (length o) = omega (arith, p .text .end) in
       record {
         answer = ap₂ (λ (a b : ℕ). taken (a ∷ b ∷ [])) u (p .next) ∙ sym (rw f);
         left = wrote-whole (p .text) ∙ sym (rw f);
       }
 
+  module _ (tree : List Node) where
+    pub other-tree : met10 T tree ≡ false → TreeLined T tree line o o (Refused 10)
+    other-tree e =
+        let f : firstUnmet (questionsWriting tree line T) ≡ 10 = rw e in
+        record { answer = sym (rw f); left = sym (rw f) }
+
+    pub own-tree : {o′ : List ℕ} {r : Text} → met10 T tree ≡ true → Lined T line o o′ r → TreeLined T tree line o o′ r
+    own-tree e l =
+        let f : firstUnmet (questionsWriting tree line T) ≡ firstUnmet (questionsOfLine line T) = rw e in
+        record { answer = l .answer ∙ sym (rw f); left = l .left ∙ sym (rw f) }
+
 -- all 1,024 records were lent
-pub all-lent : {T : Table} {lent line : ℕ} {o o′ : List ℕ} {r : Text} (words : List ℕ) → 5120 ≤ length words → 1024 ≤ lent → Lined T (recordsIn words) line o o′ r → Lined T (lentIn lent words) line o o′ r
-all-lent {T} {lent} {line} {o} {o′} {r} words k h l = subst (λ (tree : List Node). Lined T tree line o o′ r) (sym (lent-all words k h)) l
+pub all-lent : {T : Table} {lent line : ℕ} {o o′ : List ℕ} {r : Text} (words : List ℕ) → 5120 ≤ length words → 1024 ≤ lent
+    → TreeLined T (recordsIn words) line o o′ r → TreeLined T (lentIn lent words) line o o′ r
+all-lent {T} {lent} {line} {o} {o′} {r} words k h l = subst (λ (tree : List Node). TreeLined T tree line o o′ r) (sym (lent-all words k h)) l
 
 -- The calls --------------------------------------------------------------------------------------------------------------------
 module _ (file : List ℕ) {T : Table} {p : Prepared} (prepared : IsPrepared file T p) where
@@ -118,9 +124,39 @@ module _ (file : List ℕ) (tree : List Node) (line : ℕ) (text : List ℕ) whe
       sym (asked-unmet file (questionsWriting tree line) (λ n. text) (λ T. written T line (length text) ++ drop (bytesUsed T line (length text)) text) prepared enough u),
     )
 
-    pub text-met : {text′ : List ℕ} {r : Text} → p .question ≡ 0 → Lined T tree line text text′ r
+    pub text-met : {text′ : List ℕ} {r : Text} → p .question ≡ 0 → TreeLined T tree line text text′ r
         → (textFrom r ≡ writing file tree line text) × (text′ ≡ textAfter file tree line text)
     text-met z l = (
       l .answer ∙ sym (asked-met file (questionsWriting tree line) turnedDown (λ T. taken (bytesUsed T line (length text) ∷ nextLine T line (length text) ∷ [])) prepared enough z),
       l .left ∙ sym (asked-met file (questionsWriting tree line) (λ n. text) (λ T. written T line (length text) ++ drop (bytesUsed T line (length text)) text) prepared enough z),
     )
+
+module _ (file : List ℕ) (line : ℕ) (text : List ℕ) where
+  abbrev Outcome : Text → List ℕ → Type 0
+  Outcome r text′ = (textFrom r ≡ writingFormula file line text) × (text′ ≡ formulaAfter file line text)
+
+  abbrev answers : Table → HandedBack
+  answers T = taken (bytesUsed T line (length text) ∷ nextLine T line (length text) ∷ [])
+
+  abbrev leaves : Table → List ℕ
+  leaves T = written T line (length text) ++ drop (bytesUsed T line (length text)) text
+
+  pub formula-short : length text < 1024 → Outcome (Refused 1) text
+  formula-short h =
+      let e = leb-no 1024 (length text) h in
+      (sym (asked-short file (questionsOfLine line) turnedDown answers e), sym (asked-short file (questionsOfLine line) (λ n. text) leaves e))
+
+  module _ (k : 1024 ≤ length text) {T : Table} {p : Prepared} (prepared : IsPrepared file T p) where
+    pub formula-unmet : (p .question ≡ 0 → ⊥) → Outcome (Refused (p .question)) text
+    formula-unmet u =
+        let e = leb-in 1024 (length text) k in (
+          sym (asked-unmet file (questionsOfLine line) turnedDown answers prepared e u),
+          sym (asked-unmet file (questionsOfLine line) (λ n. text) leaves prepared e u),
+        )
+
+    pub formula-met : {text′ : List ℕ} {r : Text} → p .question ≡ 0 → Lined T line text text′ r → Outcome r text′
+    formula-met z l =
+        let e = leb-in 1024 (length text) k in (
+          l .answer ∙ sym (asked-met file (questionsOfLine line) turnedDown answers prepared e z),
+          l .left ∙ sym (asked-met file (questionsOfLine line) (λ n. text) leaves prepared e z),
+        )

@@ -17,12 +17,12 @@ use Rattle.nodes.specs.Nodes.{wordsOf, laid, recordsIn, lentIn}
 use Rattle.nodes.specs.Tree.{nodeOf, treeOf}
 use Rattle.nodes.specs.declared.Node.{Node}
 use Rattle.nodes.proofs.Laws.{laid-none}
-use Rattle.nodes.proofs.Words.{laid-back, records-laid, written-length, lent-all, lent-enough, lent-none, lent-short}
+use Rattle.nodes.proofs.Words.{laid-back, lent-enough, lent-short}
 use Rattle.questions.specs.Questions.{Verdict, unmet, accepted, accepting, turnedDown, taken}
 use Rattle.questions.proofs.Acceptance.{accepted-table}
 use Rattle.questions.proofs.Asked.{asked-short, asked-accepted}
 use Rattle.encoding.specs.Calls.{builtFrom, building, treeAfter}
-use Rattle.encoding.specs.Flat.{wordsAfter, LeavesTheTree, builtNodes}
+use Rattle.encoding.specs.Flat.{wordsAfter, builtNodes}
 use Rattle.encoding.specs.declared.Built.{Built}
 use Rattle.encoding.specs.declared.Built.the-variants.{Refused, Nodes}
 
@@ -83,38 +83,3 @@ module _ (file : List ℕ) (tree : List Node) {r : Built} {ws : List ℕ} (b : b
           (asked-short file (λ T. []) turnedDown (λ T. taken (nodes (rootPlace T) ∷ [])) (leb-no 1024 (length (lentIn (length tree) zeros)) (lent-short zeros h)))
           (asked-short file (λ T. []) turnedDown (λ T. taken (nodes (rootPlace T) ∷ [])) (leb-no 1024 (length tree) h))
           (asked-short file (λ T. []) (λ n. tree) (λ T. treeOf T ++ drop (length (treeOf T)) tree) (leb-no 1024 (length tree) h))
-
--- In words ---------------------------------------------------------------------------------------------------------------------
-module _ (file : List ℕ) (lent : ℕ) (words : List ℕ) where
-  -- on a refusal both stay as they were
-  kept : wordsAfter file lent words ≡ words → treeAfter file (lentIn lent words) ≡ lentIn lent words → lentIn lent (wordsAfter file lent words) ≡ treeAfter file (lentIn lent words)
-  kept p q = ap (lentIn lent) p ∙ sym q
-
-  module _ (h : 1024 ≤ lent) (l : 5120 ≤ length words) where
-    some-left : (T : Table) → accepting file ≡ accepted T → lentIn lent (wordsAfter file lent words) ≡ treeAfter file (lentIn lent words)
-    some-left T a =
-        let o = leb-in 1024 (length (lentIn lent words)) (lent-enough words l h) in
-        let left = wordsOf (treeOf T) ++ drop (length (wordsOf (treeOf T))) words in
-        let few : length (treeOf T) ≤ 1024 = omega (arith, length-map (records T) nodeOf, records-count T, (accepted-table file T a) .few-nodes) in
-        ap (lentIn lent) (asked-accepted file (λ T. []) (λ n. words) (λ T. wordsOf (treeOf T) ++ drop (length (wordsOf (treeOf T))) words) a o)
-        ∙ lent-all left (omega (arith, l, written-length (treeOf T) words few l)) h ∙ records-laid (treeOf T) words few
-        ∙ ap (λ (ns : List Node). treeOf T ++ drop (length (treeOf T)) ns) (sym (lent-all words l h))
-        ∙ sym (asked-accepted file (λ T. []) (λ n. lentIn lent words) (λ T. treeOf T ++ drop (length (treeOf T)) (lentIn lent words)) a o)
-
-    left-by : (v : Verdict) → accepting file ≡ v → lentIn lent (wordsAfter file lent words) ≡ treeAfter file (lentIn lent words)
-    left-by (accepted T) e = some-left T e
-    left-by (unmet n) e = let o = leb-in 1024 (length (lentIn lent words)) (lent-enough words l h) in kept (rw (o, e)) (rw (o, e))
-
-  none-left : length (lentIn lent words) < 1024 → lentIn lent (wordsAfter file lent words) ≡ treeAfter file (lentIn lent words)
-  none-left h =
-      let o = leb-no 1024 (length (lentIn lent words)) h in
-      kept (asked-short file (λ T. []) (λ n. words) (λ T. wordsOf (treeOf T) ++ drop (length (wordsOf (treeOf T))) words) o)
-      (asked-short file (λ T. []) (λ n. lentIn lent words) (λ T. treeOf T ++ drop (length (treeOf T)) (lentIn lent words)) o)
-
-pub leaves-the-tree : LeavesTheTree
-leaves-the-tree file lent words = go (le-or-lt 1024 lent) (le-or-lt 5120 (length words))
-  where
-    go : (1024 ≤ lent) ⊎ (lent < 1024) → (5120 ≤ length words) ⊎ (length words < 5120) → lentIn lent (wordsAfter file lent words) ≡ treeAfter file (lentIn lent words)
-    go (inl h) (inl l) = left-by file lent words h l (accepting file) refl
-    go (inl h) (inr l) = none-left file lent words (lent-none lent words l)
-    go (inr h) l = none-left file lent words (lent-short words h)

@@ -54,8 +54,11 @@ abbrev pub textFrom : Text → HandedBack
 textFrom (TextRefused n) = turnedDown n
 textFrom (Written n j) = taken (n ∷ j ∷ [])
 
+abbrev pub questionsOfLine : (line : ℕ) → Table → List (ℕ × Bool)
+questionsOfLine line T = (11, met11 T line) ∷ []
+
 abbrev pub questionsWriting : (tree : List Node) (line : ℕ) → Table → List (ℕ × Bool)
-questionsWriting tree line T = (10, met10 T tree) ∷ (11, met11 T line) ∷ []
+questionsWriting tree line T = (10, met10 T tree) ∷ questionsOfLine line T
 
 abbrev pub writing : (file : List ℕ) (tree : List Node) (line : ℕ) (text : List ℕ) → HandedBack
 writing file tree line text =
@@ -65,4 +68,15 @@ writing file tree line text =
 abbrev pub textAfter : (file : List ℕ) (tree : List Node) (line : ℕ) (text : List ℕ) → List ℕ
 textAfter file tree line text =
     asked (enoughTree tree && enoughText text) file (questionsWriting tree line) (λ n. text)
+    (λ T. written T line (length text) ++ drop (bytesUsed T line (length text)) text)
+
+-- The same with no tree lent, so that 10 is not put: 1 of the text, 2 to 9, 11
+abbrev pub writingFormula : (file : List ℕ) (line : ℕ) (text : List ℕ) → HandedBack
+writingFormula file line text =
+    asked (enoughText text) file (questionsOfLine line) turnedDown
+    (λ T. taken (bytesUsed T line (length text) ∷ nextLine T line (length text) ∷ []))
+
+abbrev pub formulaAfter : (file : List ℕ) (line : ℕ) (text : List ℕ) → List ℕ
+formulaAfter file line text =
+    asked (enoughText text) file (questionsOfLine line) (λ n. text)
     (λ T. written T line (length text) ++ drop (bytesUsed T line (length text)) text)

@@ -1,13 +1,11 @@
--- The calls over words: what is left of a tree that was lent so.
+-- Inside the calls, nothing to believe: what is left of a tree that is kept as words.
 -- Assumes nothing.
-use mathlib.Core.Path.{_≡_}
 use mathlib.Core.List.{List, [], _++_}
 use Prim.Native.Nat.{ℕ}
 use lib.ListN.{length, drop}
 use Rattle.nodes.specs.Nodes.{wordsOf, lentIn}
 use Rattle.nodes.specs.Tree.{treeOf, enoughTree}
 use Rattle.questions.specs.Questions.{asked}
-use Rattle.encoding.specs.Calls.{treeAfter}
 use Rattle.encoding.specs.declared.Built.{Built}
 use Rattle.encoding.specs.declared.Built.the-variants.{Refused, Nodes}
 
@@ -15,10 +13,6 @@ use Rattle.encoding.specs.declared.Built.the-variants.{Refused, Nodes}
 abbrev pub wordsAfter : (file : List ℕ) (lent : ℕ) (words : List ℕ) → List ℕ
 wordsAfter file lent words =
     asked (enoughTree (lentIn lent words)) file (λ T. []) (λ n. words) (λ T. wordsOf (treeOf T) ++ drop (length (wordsOf (treeOf T))) words)
-
--- what is left in the words are, as records, what the call over records leaves
-abbrev pub LeavesTheTree : Type 0
-LeavesTheTree = (file : List ℕ) (lent : ℕ) (words : List ℕ) → lentIn lent (wordsAfter file lent words) ≡ treeAfter file (lentIn lent words)
 
 -- how many records were built
 abbrev pub builtNodes : Built → ℕ

@@ -2,7 +2,6 @@
 --
 -- what each call answers and leaves
 pub mod Calls
--- the calls over words
+-- inside: a tree kept as words, and what the calls' parts say
 pub mod Flat
--- inside: what the calls' parts say
 pub mod Parts

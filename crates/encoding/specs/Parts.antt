@@ -1,6 +1,7 @@
--- Inside the encoding: what the parts of the calls say. Nothing to believe.
+-- Inside the calls, nothing to believe: what their parts say.
 -- Assumes nothing.
 use mathlib.Core.Path.{_≡_}
+use mathlib.Core.Bool.{Bool}
 use mathlib.Core.List.{List, [], _∷_, _++_}
 use Prim.Native.Nat.{ℕ}
 use lib.ListN.{length, drop}
@@ -9,10 +10,18 @@ use Rattle.planning.specs.Table.{Table}
 use Rattle.planning.specs.Text.{written, bytesUsed, nextLine}
 use Rattle.nodes.specs.declared.Node.{Node}
 use Rattle.questions.specs.Questions.{byNumber, turnedDown, taken}
-use Rattle.encoding.specs.Calls.{textFrom, questionsWriting}
+use Rattle.encoding.specs.Calls.{textFrom, questionsOfLine, questionsWriting}
 use Rattle.encoding.specs.declared.Text.{Text}
 
--- questions 10 and 11 were put, and the lines were written
-pub record Lined (T : Table) (tree : List Node) (line : ℕ) (text text′ : List ℕ) (r : Text) : Type 0 where
-  pub answer : textFrom r ≡ byNumber (firstUnmet (questionsWriting tree line T)) turnedDown (taken (bytesUsed T line (length text) ∷ nextLine T line (length text) ∷ []))
-  pub left : text′ ≡ byNumber (firstUnmet (questionsWriting tree line T)) (λ n. text) (written T line (length text) ++ drop (bytesUsed T line (length text)) text)
+-- these questions were put, and the lines were written
+pub record LinedBy (qs : List (ℕ × Bool)) (T : Table) (line : ℕ) (text text′ : List ℕ) (r : Text) : Type 0 where
+  pub answer : textFrom r ≡ byNumber (firstUnmet qs) turnedDown (taken (bytesUsed T line (length text) ∷ nextLine T line (length text) ∷ []))
+  pub left : text′ ≡ byNumber (firstUnmet qs) (λ n. text) (written T line (length text) ++ drop (bytesUsed T line (length text)) text)
+
+-- question 11 was
+abbrev pub Lined : (T : Table) (line : ℕ) (text text′ : List ℕ) (r : Text) → Type 0
+Lined T line text text′ r = LinedBy (questionsOfLine line T) T line text text′ r
+
+-- questions 10 and 11 were
+abbrev pub TreeLined : (T : Table) (tree : List Node) (line : ℕ) (text text′ : List ℕ) (r : Text) → Type 0
+TreeLined T tree line text text′ r = LinedBy (questionsWriting tree line T) T line text text′ r

@@ -9,13 +9,15 @@ ghost use Rattle.nodes.specs.Nodes.{recordsIn, lentIn};
 ghost use Rattle.sheet.specs.Sheet.{tableIn};
 ghost use Rattle.encoding.specs.Calls.{builtFrom, building, textFrom, writing, textAfter};
 ghost use Rattle.encoding.specs.Flat.{wordsAfter};
-ghost use Rattle.encoding.specs.Parts.{Lined};
+ghost use Rattle.encoding.specs.Parts.{TreeLined};
 use super::Built;
 use super::Text;
+use super::write_indexed;
 
 // Builds the tree: questions 1 and 2 to 9. All are put before a record is written.
 pub fn build(file: &[u8], lent: usize, words: &mut [u64]) -> Built
-    ensures { λ r. ⌜ (builtFrom r ≡ building (now (file .entry)) (lentIn lent (now (words .entry)))) × (now (words .exit) ≡ wordsAfter (now (file .entry)) lent (now (words .entry))) ⌝ }
+    ensures { λ r. ⌜ (builtFrom r ≡ building (now (file .entry)) (lentIn lent (now (words .entry))))
+        × (now (words .exit) ≡ wordsAfter (now (file .entry)) lent (now (words .entry))) ⌝ }
 {
     if lent < 1024 {
         return Built::Refused(1);
@@ -41,24 +43,20 @@ fn write_lines<'a, 'b>(
     line: usize,
 ) -> Text
     requires { ⌜ AcceptedTable (tableIn (now ws)) × (variables ≡ variablesOf (tableIn (now ws))) × (5120 ≤ length (now words)) ⌝ }
-    ensures { λ r. ⌜ Lined (tableIn (now (ws .entry))) (recordsIn (now (words .entry))) line (now (text .entry)) (now (text .exit)) r ⌝ }
+    ensures { λ r. ⌜ TreeLined (tableIn (now (ws .entry))) (recordsIn (now (words .entry))) line (now (text .entry)) (now (text .exit)) r ⌝ }
 {
     let mut ix = [0u64; 24578];
     let m = questions::place(ws, words, &mut ix);
     if m == 0 {
         return Text::Refused(10);
     }
-    let clauses = cursor::count_all(ws, &ix[..m]);
-    if line > clauses {
-        return Text::Refused(11);
-    }
-    let l = text::put_text(ws, &ix[..m], text, variables, clauses, line);
-    Text::Written(l.used, l.next)
+    write_indexed(ws, &ix[..m], text, variables, line)
 }
 
 // Writes text: questions 1, 2 to 9, 10 and 11.
 pub fn write_text(file: &[u8], lent: usize, words: &[u64], line: usize, text: &mut [u8]) -> Text
-    ensures { λ r. ⌜ (textFrom r ≡ writing (now (file .entry)) (lentIn lent (now (words .entry))) line (now (text .entry))) × (now (text .exit) ≡ textAfter (now (file .entry)) (lentIn lent (now (words .entry))) line (now (text .entry))) ⌝ }
+    ensures { λ r. ⌜ (textFrom r ≡ writing (now (file .entry)) (lentIn lent (now (words .entry))) line (now (text .entry)))
+        × (now (text .exit) ≡ textAfter (now (file .entry)) (lentIn lent (now (words .entry))) line (now (text .entry))) ⌝ }
 {
     if lent < 1024 {
         return Text::Refused(1);

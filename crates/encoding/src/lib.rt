@@ -1,14 +1,18 @@
 // The formula part's calls: any file, any lent tree, any line and any buffer. Each puts its questions in document 01's order and hands
 // back the number of the first that is not met, or its values; on a refusal nothing lent has changed.
-pub mod flat;
+mod flat;
 
 ghost use mathlib.Core.Path.{_≡_};
 ghost use lib.ListN.{length};
 ghost use Rattle.planning.specs.Clause.{formula};
+ghost use Rattle.planning.specs.Variable.{variables as variablesOf};
 ghost use Rattle.planning.specs.Accepted.{Accepted as AcceptedTable};
 ghost use Rattle.sheet.specs.Sheet.{tableIn};
-ghost use Rattle.encoding.specs.Calls.{checkedFrom, checking, builtFrom, building, treeAfter, textFrom, writing, textAfter};
+ghost use Rattle.shape.specs.Shape.{Indexed};
+ghost use Rattle.encoding.specs.Calls.{checkedFrom, checking, builtFrom, building, treeAfter};
+ghost use Rattle.encoding.specs.Calls.{textFrom, writing, textAfter, writingFormula, formulaAfter};
 ghost use Rattle.encoding.specs.Flat.{builtNodes};
+ghost use Rattle.encoding.specs.Parts.{Lined};
 use nodes::Node;
 
 // The answers: the number of a question that is not met, or the values.
@@ -63,7 +67,8 @@ pub fn check(file: &[u8]) -> Checked
 
 // Builds the tree: questions 1 and 2 to 9. All are put before a record is written.
 pub fn build(file: &[u8], tree: &mut [Node]) -> Built
-    ensures { λ r. ⌜ (builtFrom r ≡ building (now (file .entry)) (now (tree .entry))) × (now (tree .exit) ≡ treeAfter (now (file .entry)) (now (tree .entry))) ⌝ }
+    ensures { λ r. ⌜ (builtFrom r ≡ building (now (file .entry)) (now (tree .entry)))
+        × (now (tree .exit) ≡ treeAfter (now (file .entry)) (now (tree .entry))) ⌝ }
 {
     let mut words = [0u64; 5120];
     let built = flat::build(file, tree.len(), &mut words);
@@ -73,8 +78,56 @@ pub fn build(file: &[u8], tree: &mut [Node]) -> Built
 
 // Writes text: questions 1, 2 to 9, 10 and 11.
 pub fn write_text(file: &[u8], tree: &[Node], line: usize, text: &mut [u8]) -> Text
-    ensures { λ r. ⌜ (textFrom r ≡ writing (now (file .entry)) (now (tree .entry)) line (now (text .entry))) × (now (text .exit) ≡ textAfter (now (file .entry)) (now (tree .entry)) line (now (text .entry))) ⌝ }
+    ensures { λ r. ⌜ (textFrom r ≡ writing (now (file .entry)) (now (tree .entry)) line (now (text .entry)))
+        × (now (text .exit) ≡ textAfter (now (file .entry)) (now (tree .entry)) line (now (text .entry))) ⌝ }
 {
     let words = nodes::words_of(tree);
     flat::write_text(file, tree.len(), &words, line, text)
+}
+
+// Question 11, and the lines, by the table's index.
+fn write_indexed<'a, 'b>(
+    ws: &'a [u64],
+    ix: &'a [u64],
+    text: &'b mut [u8],
+    variables: usize,
+    line: usize,
+) -> Text
+    requires { ⌜ Indexed (tableIn (now ws)) (now ix) × (variables ≡ variablesOf (tableIn (now ws))) ⌝ }
+    ensures { λ r. ⌜ Lined (tableIn (now (ws .entry))) line (now (text .entry)) (now (text .exit)) r ⌝ }
+{
+    let clauses = cursor::count_all(ws, ix);
+    if line > clauses {
+        return Text::Refused(11);
+    }
+    let l = text::put_text(ws, ix, text, variables, clauses, line);
+    Text::Written(l.used, l.next)
+}
+
+// The same by an index made here, of the table's own records.
+fn write_own<'a, 'b>(ws: &'a [u64], text: &'b mut [u8], variables: usize, line: usize) -> Text
+    requires { ⌜ AcceptedTable (tableIn (now ws)) × (variables ≡ variablesOf (tableIn (now ws))) ⌝ }
+    ensures { λ r. ⌜ Lined (tableIn (now (ws .entry))) line (now (text .entry)) (now (text .exit)) r ⌝ }
+{
+    let mut words = [0u64; 5120];
+    let n = tree::build(ws, &mut words);
+    let mut ix = [0u64; 24578];
+    let m = indexing::fill(ws, &words[..n], &mut ix);
+    write_indexed(ws, &ix[..m], text, variables, line)
+}
+
+// Writes the formula's text with no tree lent: questions 1, 2 to 9 and 11.
+pub fn write_formula(file: &[u8], line: usize, text: &mut [u8]) -> Text
+    ensures { λ r. ⌜ (textFrom r ≡ writingFormula (now (file .entry)) line (now (text .entry)))
+        × (now (text .exit) ≡ formulaAfter (now (file .entry)) line (now (text .entry))) ⌝ }
+{
+    if text.len() < 1024 {
+        return Text::Refused(1);
+    }
+    let mut ws = [0u64; 1479];
+    let p = questions::prepare(file, &mut ws);
+    if p.question != 0 {
+        return Text::Refused(p.question);
+    }
+    write_own(&ws, text, p.variables, line)
 }

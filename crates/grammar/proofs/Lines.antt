@@ -20,7 +20,7 @@ use Rattle.lines.proofs.Cutting.{cut-first, cut-last, cut-more}
 use Rattle.grammar.specs.Byte.{tab}
 use Rattle.grammar.specs.Name.{isName, isList}
 use Rattle.grammar.specs.Line.{Letter, F, S, T, M, I, R, other, letterOf, letter, forms, Form, isDepth, hasForm, formed, formedAs, isLine, field}
-use Rattle.grammar.specs.Field.{At, formOf, formsOf}
+use Rattle.grammar.specs.Field.{placeIn, At, formOf, formsOf}
 
 -- forms
 pub form-name : (k : ℕ) (f : List ℕ) → k ≡ 110 → isName f ≡ hasForm (formOf k) f
@@ -135,37 +135,64 @@ pub letter-other : (b : ℕ) → (b ≡ 70 → ⊥) → (b ≡ 83 → ⊥) → (
 unfolding letterOf
 letter-other b f s t m i r = rw (ne-eqb b 70 f, ne-eqb b 83 s, ne-eqb b 84 t, ne-eqb b 77 m, ne-eqb b 73 i, ne-eqb b 82 r)
 
--- Field k of a line ------------------------------------------------------------
+-- Field k of a line ---------------------------------------------------------------------------------------------------------
+-- the fields from i on are left, j of them are passed
 pub record AtTo (s : List ℕ) (a b k i j : ℕ) : Type 0 where
   pub low : a ≤ i
   pub high : i ≤ b
   pub few : j ≤ k
+  pub place : placeIn (k - j) (split tab (slice i b s)) i b ≡ placeIn k (split tab (slice a b s)) a b
   pub same : getD (split tab (slice i b s)) (k - j) [] ≡ getD (split tab (slice a b s)) k []
 
 pub at-first : {s : List ℕ} {a b k : ℕ} → a ≤ b → AtTo s a b k a 0
 at-first {s} {a} {b} {k} h =
     let z : k - 0 ≡ k = omega arith in
-    record { low = omega arith; high = h; few = omega arith; same = ap (λ (n : ℕ). getD (split tab (slice a b s)) n []) z }
+    record {
+      low = omega arith;
+      high = h;
+      few = omega arith;
+      place = ap (λ (n : ℕ). placeIn n (split tab (slice a b s)) a b) z;
+      same = ap (λ (n : ℕ). getD (split tab (slice a b s)) n []) z;
+    }
 
 pred-of : (k j : ℕ) → j < k → k - j ≡ suc (k - (j + 1))
 pred-of k j h = omega arith
 
+-- what stands from x up to y, and begins where field k does, is it
+at-of : {s : List ℕ} {a b k x y : ℕ} → a ≤ x → x ≤ y → y ≤ b → b ≤ length s → x ≡ placeIn k (split tab (slice a b s)) a b
+    → slice x y s ≡ getD (split tab (slice a b s)) k [] → At s a b k x y
+unfolding field
+at-of {s} {a} {b} {k} {x} {y} l o m h p q = record {
+  start = p;
+  end = omega (arith, length-slice x y s (omega arith), ap length q);
+  low = l;
+  order = o;
+  high = m;
+  bytes = q;
+}
+
 module _ {s : List ℕ} {a b k i j e : ℕ} (u : AtTo s a b k i j) (c : Cut tab s i b e) (h : b ≤ length s) where
   pub at-none : j < k → e ≡ b → At s a b k b b
-  unfolding field
+  unfolding placeIn
   at-none l q =
+      let p : placeIn (k - j) (split tab (slice i b s)) i b ≡ b = rw (cut-last c h q, pred-of k j l) in
       let r : getD (split tab (slice i b s)) (k - j) [] ≡ [] = rw (cut-last c h q, pred-of k j l) in
-      record { low = omega (arith, u .low, u .high); order = omega arith; high = omega arith; bytes = slice-empty b s ∙ sym r ∙ u .same }
+      at-of (omega (arith, u .low, u .high)) (omega arith) (omega arith) h (sym p ∙ u .place) (slice-empty b s ∙ sym r ∙ u .same)
 
   pub at-more : j < k → (e ≡ b → ⊥) → AtTo s a b k (e + 1) (j + 1)
+  unfolding placeIn
   at-more l n =
       let m : e < b = ne-lt (c .high) n in
+      let z : i + length (slice i e s) + 1 ≡ e + 1 = omega (arith, length-slice i e s (omega arith), c .low) in
+      let p : placeIn (k - j) (split tab (slice i b s)) i b ≡ placeIn (k - (j + 1)) (split tab (slice (e + 1) b s)) (e + 1) b =
+      rw (cut-more c h m, pred-of k j l) (ap (λ (x : ℕ). placeIn (k - (j + 1)) (split tab (slice (e + 1) b s)) x b) z) in
       let r : getD (split tab (slice i b s)) (k - j) [] ≡ getD (split tab (slice (e + 1) b s)) (k - (j + 1)) [] = rw (cut-more c h m, pred-of k j l) in
-      record { low = omega (arith, u .low, c .low); high = omega arith; few = omega arith; same = sym r ∙ u .same }
+      record { low = omega (arith, u .low, c .low); high = omega arith; few = omega arith; place = sym p ∙ u .place; same = sym r ∙ u .same }
 
   pub at-done : k ≤ j → At s a b k i e
-  unfolding field
+  unfolding placeIn
   at-done l =
       let z : k - j ≡ 0 = omega arith in
+      let p : placeIn (k - j) (split tab (slice i b s)) i b ≡ i = rw (z, cut-first c h .1) in
       let r : getD (split tab (slice i b s)) (k - j) [] ≡ slice i e s = rw (z, cut-first c h .1) in
-      record { low = u .low; order = c .low; high = c .high; bytes = sym r ∙ u .same }
+      at-of (u .low) (c .low) (c .high) h (sym p ∙ u .place) (sym r ∙ u .same)

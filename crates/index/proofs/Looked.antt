@@ -14,8 +14,7 @@ use Rattle.planning.proofs.Record.{records-rising}
 use Rattle.places.specs.Flat.{Node, Child, inner, own, ownAll, jobsAt, methodsAt, nodeOf, nodesFrom, slotsFrom}
 use Rattle.places.specs.ClausePlace.{childAt, nodeAt, methodAt, tasksN, methodVar}
 use Rattle.places.specs.Lookup.{recordAt, firstVar, ChildIn}
-use Rattle.places.proofs.Lookup.{node-at, nodes-length}
-use Rattle.places.proofs.Literals
+use Rattle.places.proofs.Lookup.{node-at, nodes-length, child-in}
 use Rattle.index.specs.Index.{nodeWords, meanings, slotNodes, source, indexOf, slotNodeIn, meaningIn, SlotAt, ChildAt}
 use Rattle.index.proofs.Known.{behind, nodes-end}
 
@@ -147,7 +146,7 @@ child-at T root n y h l =
     let rs = records T in
     let i : n < length rs = omega (arith, h, nodes-length T rs 0 1) in
     let e = node-at T rs n i in
-    let k = subst (λ (N : Node). y < length (N .children) → ChildIn T rs n (childAt N y)) (sym e) (λ q. Literals.child-in T rs (records-rising T root) n i y q) l in
+    let k = subst (λ (N : Node). y < length (N .children) → ChildIn T rs n (childAt N y)) (sym e) (λ q. child-in T rs (records-rising T root) n i y q) l in
     let c = (childAt (nodeAt (source T) n) y) .node in
     record {
       inside = omega (arith, k .inside, nodes-length T rs 0 1);

@@ -1,5 +1,5 @@
--- Inside the encoding: what the cursor looks up, worked out of a table's records once a call and kept as words. Nothing to believe: what
--- is made of it is planning's formula. Assumes nothing.
+-- Inside the encoding, nothing to believe: what the cursor looks up, worked out of a table's records once a call and kept as words. What is
+-- made of it is planning's formula. Assumes nothing.
 use mathlib.Core.Path.{_≡_}
 use mathlib.Core.Bool.{cond}
 use mathlib.Core.List.{List, [], _∷_, _++_, map}

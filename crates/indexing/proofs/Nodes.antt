@@ -19,8 +19,7 @@ use Rattle.planning.proofs.Record.{LabelIn, records-rising}
 use Rattle.places.specs.Flat.{Node, nonEmpty, inner as innerRecord, own, ownAll, jobsAt, methodsAt, nodeOf}
 use Rattle.places.specs.ClausePlace.{noNode}
 use Rattle.places.specs.Lookup.{noRecord, recordAt, firstVar}
-use Rattle.places.proofs.Lookup.{node-at, nodes-length, first-next}
-use Rattle.places.proofs.Literals.{every-at}
+use Rattle.places.proofs.Lookup.{node-at, nodes-length, first-next, every-at}
 use Rattle.places.proofs.Records.{kids, treeNodes, treesNodes, nodes-records, vars-records, ownAll-append}
 use Rattle.tree.specs.Words.{recordWords}
 use Rattle.tree.specs.Visit.{membersIn, someIn, Known}

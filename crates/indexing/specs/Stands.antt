@@ -1,4 +1,4 @@
--- Inside the encoding: what the writing of an index goes by, and the parts of a node that it writes. Nothing to believe: what is written is
+-- Inside the encoding, nothing to believe: what the writing of an index goes by, and the parts of a node that it writes. What is written is
 -- the index of crate `index`. Assumes nothing.
 use mathlib.Core.Path.{_≡_}
 use mathlib.Core.List.{List, [], _∷_, map}

@@ -161,7 +161,7 @@ fn put_counts<'a, 'b>(
     )
 }
 
-// The numbers of the children of node n, "the next child is the next node after it with the same parent"; then zeros.
+// The numbers of the children of node n, then zeros: the next child is the next node after it with the same parent.
 fn put_children<'a, 'b>(
     ws: &'a [u64],
     tree: &'a [u64],

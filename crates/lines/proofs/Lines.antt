@@ -10,7 +10,8 @@ use lib.ListN.{length, getD, drop, length-drop}
 use lib.Seq.{slice, slice-empty, length-slice, take-length, drop-cons}
 use Rattle.lists.proofs.Order.{le-or-lt, ne-lt}
 use Rattle.lines.specs.Bytes.{LF}
-use Rattle.lines.specs.Parts.{ended, placed, linesOf, linesFrom, lineAt, noLine}
+use Rattle.lines.specs.Parts.{ended, placed, linesOf, noLine}
+use Rattle.lines.specs.Cut.{linesFrom, lineAt}
 use Rattle.lines.specs.Cut.{Cut}
 use Rattle.lines.proofs.Cutting.{line-last, line-more}
 

@@ -5,7 +5,6 @@ use mathlib.Core.List.{List, [], _∷_}
 use Prim.Native.Nat.{ℕ, _+_}
 use lib.Dec.{eqb}
 use lib.ListN.{length}
-use lib.Seq.{slice}
 use Rattle.lines.specs.Bytes.{LF}
 
 -- b in front of the first part; dropped where there is none, for then it stands after the last end
@@ -46,12 +45,3 @@ placed k (p ∷ ps) = record { start = k; bytes = p } ∷ placed (k + length p +
 unfoldable pub linesOf : List ℕ → List Piece
 unfolding ended placed
 linesOf s = placed 0 (ended LF s)
-
--- the lines from the place a on: all of them for a = 0
-unfoldable pub linesFrom : List ℕ → ℕ → List Piece
-unfolding ended placed
-linesFrom s a = placed a (ended LF (slice a (length s) s))
-
--- the line from the place a up to b
-abbrev pub lineAt : List ℕ → ℕ → ℕ → Piece
-lineAt s a b = record { start = a; bytes = slice a b s }

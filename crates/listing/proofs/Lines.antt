@@ -9,20 +9,20 @@ use Rattle.lists.specs.List.{Every}
 use Rattle.lists.proofs.Every.{every-getD}
 use Rattle.planning.specs.Text.{decimal}
 use Rattle.planning.proofs.Text.Numeral.{decimal-length}
-use Rattle.lines.specs.Part.{bytesAt}
-use Rattle.table.specs.Reading.{NameParts}
+use Rattle.table.specs.Reading.{NameParts, nameAt}
 use Rattle.table.specs.Layout.{noPart}
-use Rattle.listing.specs.Listing.{Names, shownNames, ShortNames, Row, jobRow, stepRow, jobLine, stepLine, rowLines}
+use Rattle.listing.specs.Listing.{Names, shownNames, Row, jobRow, stepRow, jobLine, stepLine, rowLines}
+use Rattle.listing.specs.Walk.{ShortNames}
 use Rattle.listing.specs.Walk.{stepsIn}
 
 -- Names ----------------------------------------------------------------------------------------------------------------------
 -- a name by its part of the file
 module _ (file : List ℕ) (ns : NameParts) where
-  pub step-named : (s : ℕ) → getD ((shownNames file ns) .steps) s [] ≡ bytesAt file (getD (ns .steps) s noPart)
-  step-named s = List·getD-map (bytesAt file) (ns .steps) s noPart
+  pub step-named : (s : ℕ) → getD ((shownNames file ns) .steps) s [] ≡ nameAt file (getD (ns .steps) s noPart)
+  step-named s = List·getD-map (nameAt file) (ns .steps) s noPart
 
-  pub job-named : (j : ℕ) → getD ((shownNames file ns) .jobs) j [] ≡ bytesAt file (getD (ns .jobs) j noPart)
-  job-named j = List·getD-map (bytesAt file) (ns .jobs) j noPart
+  pub job-named : (j : ℕ) → getD ((shownNames file ns) .jobs) j [] ≡ nameAt file (getD (ns .jobs) j noPart)
+  job-named j = List·getD-map (nameAt file) (ns .jobs) j noPart
 
 module _ {N : Names} (short : ShortNames N) where
   pub step-short : (s : ℕ) → length (getD (N .steps) s []) ≤ 12

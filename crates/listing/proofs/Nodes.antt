@@ -17,7 +17,7 @@ use Rattle.planning.specs.Table.{Task, step, job, Table}
 use Rattle.planning.specs.Record.{Record, records}
 use Rattle.planning.specs.Model.{Valuation, chosen}
 use Rattle.planning.proofs.Task.{length-tasks}
-use Rattle.lines.specs.Part.{bytesAt}
+use Rattle.table.specs.Reading.{nameAt}
 use Rattle.table.specs.Layout.{namePartsFrom, noPart}
 use Rattle.table.specs.declared.Table.{Table as ReadTable}
 use Rattle.tree.specs.Words.{recordWords, treeWords}
@@ -108,13 +108,13 @@ module _ {r : ReadTable} {file : List ℕ} {T : Table} {ix : List ℕ} {n : ℕ}
   pub handed-down : {c : ℕ} (s : ℕ) → c ≡ length ((node T n) .jobs) → 0 < c → WroteRows names o at k (stepRows ((node T n) .jobs) s) o at k
   handed-down s e h = lists-same (sym (no-rows ((node T n) .jobs) s (omega arith))) (lists-none names o at k)
 
-  pub step-name-short : {name : List ℕ} (s : ℕ) → name ≡ bytesAt file (getD ((namePartsFrom r) .steps) s noPart) → length name ≤ 12
+  pub step-name-short : {name : List ℕ} (s : ℕ) → name ≡ nameAt file (getD ((namePartsFrom r) .steps) s noPart) → length name ≤ 12
   step-name-short s e = omega (arith, ap length (e ∙ sym (step-named file (namePartsFrom r) s)), step-short (u .short) s)
 
-  pub job-name-short : {name : List ℕ} (j : ℕ) → name ≡ bytesAt file (getD ((namePartsFrom r) .jobs) j noPart) → length name ≤ 12
+  pub job-name-short : {name : List ℕ} (j : ℕ) → name ≡ nameAt file (getD ((namePartsFrom r) .jobs) j noPart) → length name ≤ 12
   job-name-short j e = omega (arith, ap length (e ∙ sym (job-named file (namePartsFrom r) j)), job-short (u .short) j)
 
-  pub step-listed : {c e : ℕ} {name o′ : List ℕ} (s : ℕ) → c ≡ length ((node T n) .jobs) → c ≤ 0 → name ≡ bytesAt file (getD ((namePartsFrom r) .steps) s noPart)
+  pub step-listed : {c e : ℕ} {name o′ : List ℕ} (s : ℕ) → c ≡ length ((node T n) .jobs) → c ≤ 0 → name ≡ nameAt file (getD ((namePartsFrom r) .steps) s noPart)
       → Wrote o at (stepLine (k + 1) name) o′ e → WroteRows names o at k (stepRows ((node T n) .jobs) s) o′ e (k + 1)
   step-listed {c} {e} {name} {o′} s p h q w =
       lists-same (sym (one-row ((node T n) .jobs) s (omega arith)))
@@ -138,7 +138,7 @@ module _ {r : ReadTable} {file : List ℕ} {T : Table} {ix : List ℕ} {n : ℕ}
           let e : chosen (valueOf values) (methodVarsAt (node T n)) ≡ none = found ∙ elem-past ((node T n) .methods) x (omega arith) in
           lists-same (ap (taskRows ((node T n) .jobs) ((recordAt (records T) n) .depth) (some (job j))) (sym e)) (lists-none names o at k)
 
-      pub job-listed : {m e : ℕ} {name o′ : List ℕ} (j : ℕ) → x < c → m ≡ methodAt (node T n) x → name ≡ bytesAt file (getD ((namePartsFrom r) .jobs) j noPart)
+      pub job-listed : {m e : ℕ} {name o′ : List ℕ} (j : ℕ) → x < c → m ≡ methodAt (node T n) x → name ≡ nameAt file (getD ((namePartsFrom r) .jobs) j noPart)
           → Wrote o at (jobLine (getD tree (5 * n) 0) name m) o′ e → WroteRows names o at k (jobRows T (valueOf values) n j) o′ e k
       job-listed {m} {e} {name} {o′} j h g z w =
           let y : chosen (valueOf values) (methodVarsAt (node T n)) ≡ some m = found ∙ elem-in ((node T n) .methods) x (omega arith) ∙ ap (λ (i : ℕ). some i) (sym g) in

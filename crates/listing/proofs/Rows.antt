@@ -1,6 +1,6 @@
 -- The rows of a node: at most one, and a short one, whatever the values; and only the values of the table's variables count.
 -- By looking up the node's record.
-use mathlib.Core.Path.{_≡_, refl, sym, ap, ap₂, _∙_, subst}
+use mathlib.Core.Path.{_≡_, refl, sym, ap, _∙_, subst}
 use mathlib.Core.Bool.{Bool, true, false}
 use mathlib.Core.List.{List, [], _∷_, _++_, map, append-nil}
 use mathlib.Core.Option.{Option, none, some}
@@ -12,7 +12,7 @@ use Rattle.lists.specs.List.{concatMap, from, upTo, has, _∈_, Every}
 use Rattle.lists.proofs.Bool.{and-l, leb-sound}
 use Rattle.lists.proofs.Member.{in-filter-out}
 use Rattle.lists.proofs.Number.{upTo-range, length-from}
-use Rattle.lists.proofs.Every.{every-concatMap, concatMap-append, concatMap-same, length-concatMap-le}
+use Rattle.lists.proofs.Every.{every-concatMap, concatMap-append, length-concatMap-le}
 use Rattle.lists.proofs.Place.{from-add}
 use Rattle.planning.specs.Table.{Task, step, job, Table, jobOf}
 use Rattle.planning.specs.Place.{methodsOf}
@@ -20,7 +20,7 @@ use Rattle.planning.specs.Record.{Record, records}
 use Rattle.planning.specs.Variable.{variables}
 use Rattle.planning.specs.Model.{Valuation, chosen}
 use Rattle.planning.specs.Accepted.{Accepted}
-use Rattle.planning.proofs.Task.{job-among, length-tasks}
+use Rattle.planning.proofs.Task.{job-among}
 use Rattle.planning.proofs.Trees.Hold.{Held}
 use Rattle.places.specs.Flat.{nonEmpty, inner, own, ownAll, jobsIf, jobsAt, methodsAt, Node, tasksAt, methodVarsAt}
 use Rattle.places.specs.Lookup.{recordAt, firstVar}
@@ -29,10 +29,11 @@ use Rattle.places.proofs.Records.{ownAll-append, vars-records}
 use Rattle.index.specs.Index.{source}
 use Rattle.shape.specs.Shape.{node}
 use Rattle.shape.proofs.Nodes.{few-nodes}
-use Rattle.listing.specs.Listing.{Names, ShortNames, Row, rowLines}
-use Rattle.listing.specs.Walk.{stepRows, taskRows, rowsAt, rowsTo, walked, stepsIn}
+use Rattle.listing.specs.Listing.{Names, Row, rowLines}
+use Rattle.listing.specs.Walk.{ShortNames}
+use Rattle.listing.specs.Walk.{stepRows, taskRows, rowsAt, rowsTo, stepsIn}
 use Rattle.listing.proofs.Lines.{ShortRow, lines-most, steps-few}
-use Rattle.listing.proofs.Chosen.{chosen-held, chosen-agree}
+use Rattle.listing.proofs.Chosen.{chosen-held}
 
 step-one : (js : List ℕ) (s : ℕ) → length (stepRows js s) ≤ 1
 step-one [] s = omega arith
@@ -142,19 +143,3 @@ module _ (T : Table) where
 
   pub first-variable : {n : ℕ} → n < length ((source T) .nodes) → 1 ≤ (node T n) .first
   first-variable h = omega (arith, first-node h)
-
-  module _ (v w : Valuation) (same : (i : ℕ) → 1 ≤ i → i ≤ variables T → v i ≡ w i) where
-    rows-agree : (n : ℕ) → n < length ((source T) .nodes) → rowsAt T v n ≡ rowsAt T w n
-    rows-agree n h =
-        let N = node T n in
-        let t = length-tasks (N .steps) (N .jobs) in
-        ap₂ (taskRows (N .jobs) ((recordAt (records T) n) .depth))
-        (chosen-agree v w (N .first) (map step (N .steps) ++ map job (N .jobs))
-        (λ i l k. same i (omega (arith, first-variable h)) (omega (arith, t, last-variable h))))
-        (chosen-agree v w (N .first + (length (N .steps) + length (N .jobs))) (N .methods)
-        (λ i l k. same i (omega (arith, first-variable h)) (omega (arith, last-variable h))))
-
-    pub walked-agree : (N : Names) → walked T N v ≡ walked T N w
-    walked-agree N =
-        let k = length ((source T) .nodes) in
-        ap (rowLines N 0) (concatMap-same (rowsAt T v) (rowsAt T w) (upTo k) (λ i m. rows-agree i (upTo-range i k m)))

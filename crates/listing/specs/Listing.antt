@@ -1,13 +1,11 @@
 -- The listing of a procedure tree: its jobs and steps, top down and left to right. Bytes are numbers: 9 is a tab, 10 LF, 74 `J`, 83 `S`.
 -- Assumes nothing.
 use mathlib.Core.List.{List, [], _∷_, _++_, map}
-use Prim.Native.Nat.{ℕ, suc, _≤_}
-use lib.ListN.{length, getD}
-use Rattle.lists.specs.List.{Every}
+use Prim.Native.Nat.{ℕ, suc}
+use lib.ListN.{getD}
 use Rattle.planning.specs.Tree.{Tree, alone, split, Trees, end, next}
 use Rattle.planning.specs.Text.{decimal}
-use Rattle.lines.specs.Part.{bytesAt}
-use Rattle.table.specs.Reading.{NameParts}
+use Rattle.table.specs.Reading.{NameParts, nameAt}
 
 -- the names of the steps and of the jobs, by number
 pub record Names : Type 0 where
@@ -16,12 +14,7 @@ pub record Names : Type 0 where
 
 -- "Each name shown is the part of the table file where it was declared."
 abbrev pub shownNames : (file : List ℕ) → NameParts → Names
-shownNames file ns = record { steps = map (bytesAt file) (ns .steps); jobs = map (bytesAt file) (ns .jobs) }
-
--- "A name is 1 to 12 characters"
-pub record ShortNames (N : Names) : Type 0 where
-  pub steps : Every (λ (n : List ℕ). length n ≤ 12) (N .steps)
-  pub jobs : Every (λ (n : List ℕ). length n ≤ 12) (N .jobs)
+shownNames file ns = record { steps = map (nameAt file) (ns .steps); jobs = map (nameAt file) (ns .jobs) }
 
 -- Rows -----------------------------------------------------------------------------------------------------------------------
 -- "A J line is a job: depth, name, method number. An S line is a step at its slot": a job by its number, a step by its number

@@ -1,11 +1,11 @@
--- Inside the listing: its rows node by node, as the code reads them from values. Nothing to believe: for a model's values they are those
--- of the tree that it gives. Assumes nothing.
+-- Inside the listing, nothing to believe: its rows node by node, as the code reads them from values. For a model's values they are those of
+-- the tree that it gives. Assumes nothing.
 use mathlib.Core.Path.{_≡_}
 use mathlib.Core.List.{List, [], _∷_}
 use mathlib.Core.Option.{Option, none, some}
 use Prim.Native.Nat.{ℕ, suc, _+_, _≤_, _<_}
 use lib.ListN.{length}
-use Rattle.lists.specs.List.{concatMap, findIndex, from, upTo}
+use Rattle.lists.specs.List.{Every, concatMap, findIndex, from, upTo}
 use Rattle.lists.specs.Written.{Wrote}
 use Rattle.planning.specs.Table.{Task, step, job, Table}
 use Rattle.planning.specs.Record.{records}
@@ -18,7 +18,12 @@ use Rattle.places.specs.Flat.{Node, tasksAt, methodVarsAt}
 use Rattle.places.specs.Lookup.{recordAt}
 use Rattle.index.specs.Index.{source}
 use Rattle.shape.specs.Shape.{node, Indexed}
-use Rattle.listing.specs.Listing.{Names, shownNames, ShortNames, Row, jobRow, stepRow, rowLines}
+use Rattle.listing.specs.Listing.{Names, shownNames, Row, jobRow, stepRow, rowLines}
+
+-- "A name is 1 to 12 characters", as the reader promises
+pub record ShortNames (N : Names) : Type 0 where
+  pub steps : Every (λ (n : List ℕ). length n ≤ 12) (N .steps)
+  pub jobs : Every (λ (n : List ℕ). length n ≤ 12) (N .jobs)
 
 -- Rows -----------------------------------------------------------------------------------------------------------------------
 -- a step has its row at a slot, where no job has a variable, and none at an inner node, which hands it down

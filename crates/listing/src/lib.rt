@@ -103,7 +103,8 @@ fn put_step_row<'a, 'b, 'c>(
     p: Reached,
 ) -> Reached
     requires { ⌜ Ready t (now file) (tableIn (now ws)) (now ix) n (now out) (p .at) (p .steps) ⌝ }
-    ensures { λ r. ⌜ WroteRows (shownNames (now (file .entry)) (namePartsFrom t)) (now (out .entry)) (p .at) (p .steps) (stepRows ((node (tableIn (now (ws .entry))) n) .jobs) s) (now (out .exit)) (r .at) (r .steps) ⌝ }
+    ensures { λ r. ⌜ WroteRows (shownNames (now (file .entry)) (namePartsFrom t)) (now (out .entry)) (p .at) (p .steps)
+        (stepRows ((node (tableIn (now (ws .entry))) n) .jobs) s) (now (out .exit)) (r .at) (r .steps) ⌝ }
 {
     if shape::jobs_of(ws, ix, n) > 0 {
         return p;
@@ -129,8 +130,10 @@ fn put_job_row<'a, 'b, 'c, 'd, 'e>(
     j: usize,
     p: Reached,
 ) -> Reached
-    requires { ⌜ Listable t (now file) (tableIn (now ws)) (now ix) (now tree) (now values) × Ready t (now file) (tableIn (now ws)) (now ix) n (now out) (p .at) (p .steps) × (0 < length ((node (tableIn (now ws)) n) .jobs)) ⌝ }
-    ensures { λ r. ⌜ WroteRows (shownNames (now (file .entry)) (namePartsFrom t)) (now (out .entry)) (p .at) (p .steps) (jobRows (tableIn (now (ws .entry))) (valueOf (now (values .entry))) n j) (now (out .exit)) (r .at) (r .steps) ⌝ }
+    requires { ⌜ Listable t (now file) (tableIn (now ws)) (now ix) (now tree) (now values)
+        × Ready t (now file) (tableIn (now ws)) (now ix) n (now out) (p .at) (p .steps) × (0 < length ((node (tableIn (now ws)) n) .jobs)) ⌝ }
+    ensures { λ r. ⌜ WroteRows (shownNames (now (file .entry)) (namePartsFrom t)) (now (out .entry)) (p .at) (p .steps)
+        (jobRows (tableIn (now (ws .entry))) (valueOf (now (values .entry))) n j) (now (out .exit)) (r .at) (r .steps) ⌝ }
 {
     let k = shape::methods_of(ws, ix, n);
     let v = shape::first(ws, ix, n) + shape::tasks_of(ws, ix, n);
@@ -158,8 +161,10 @@ fn put_node<'a, 'b, 'c, 'd, 'e>(
     n: usize,
     p: Reached,
 ) -> Reached
-    requires { ⌜ Listable t (now file) (tableIn (now ws)) (now ix) (now tree) (now values) × Ready t (now file) (tableIn (now ws)) (now ix) n (now out) (p .at) (p .steps) ⌝ }
-    ensures { λ r. ⌜ WroteRows (shownNames (now (file .entry)) (namePartsFrom t)) (now (out .entry)) (p .at) (p .steps) (rowsAt (tableIn (now (ws .entry))) (valueOf (now (values .entry))) n) (now (out .exit)) (r .at) (r .steps) ⌝ }
+    requires { ⌜ Listable t (now file) (tableIn (now ws)) (now ix) (now tree) (now values)
+        × Ready t (now file) (tableIn (now ws)) (now ix) n (now out) (p .at) (p .steps) ⌝ }
+    ensures { λ r. ⌜ WroteRows (shownNames (now (file .entry)) (namePartsFrom t)) (now (out .entry)) (p .at) (p .steps)
+        (rowsAt (tableIn (now (ws .entry))) (valueOf (now (values .entry))) n) (now (out .exit)) (r .at) (r .steps) ⌝ }
 {
     let k = shape::tasks_of(ws, ix, n);
     let x = first_true(values, shape::first(ws, ix, n), k);
@@ -184,7 +189,8 @@ pub fn write<'a, 'b, 'c, 'd, 'e>(
     out: &'b mut [u8],
 ) -> usize
     requires { ⌜ Listable t (now file) (tableIn (now ws)) (now ix) (now tree) (now values) × (24576 ≤ length (now out)) ⌝ }
-    ensures { λ r. ⌜ Wrote (now (out .entry)) 0 (walked (tableIn (now (ws .entry))) (shownNames (now (file .entry)) (namePartsFrom t)) (valueOf (now (values .entry)))) (now (out .exit)) r ⌝ }
+    ensures { λ r. ⌜ Wrote (now (out .entry)) 0 (walked (tableIn (now (ws .entry))) (shownNames (now (file .entry)) (namePartsFrom t))
+        (valueOf (now (values .entry)))) (now (out .exit)) r ⌝ }
 {
     let k = shape::nodes_in(ws, ix, 1);
     let mut p = Reached { at: 0, steps: 0 };

@@ -15,12 +15,6 @@ getD-map-in f [] i a b h = absurd (omega arith)
 getD-map-in f (x ∷ xs) zero a b h = refl
 getD-map-in f (x ∷ xs) (suc i) a b h = getD-map-in f xs i a b (omega arith)
 
--- a member of the numbers from k on
-pub getD-from : (k n i : ℕ) (d : ℕ) → i < n → getD (from k n) i d ≡ k + i
-getD-from k zero i d h = absurd (omega arith)
-getD-from k (suc n) zero d h = omega arith
-getD-from k (suc n) (suc i) d h = let e = getD-from (suc k) n i d (omega arith) in omega (arith, e)
-
 -- where all pass the test, each does
 pub all-at : {A : Type 0} (p : A → Bool) (xs : List A) (i : ℕ) (d : A) → all p xs ≡ true → i < length xs → p (getD xs i d) ≡ true
 all-at p [] i d e h = absurd (omega arith)

@@ -1,5 +1,5 @@
--- What a write into a buffer leaves: what was written at its place, and everything else as it was.
--- Assumes nothing.
+-- Inside the calls, nothing to believe: what a write into a buffer leaves, which is what was written at its place, and everything else as it
+-- was. Assumes nothing.
 use mathlib.Core.Path.{_≡_}
 use mathlib.Core.List.{List, _++_}
 use Prim.Native.Nat.{ℕ, _+_}

@@ -1,4 +1,4 @@
--- Inside the answer's calls: the clauses that a cursor hands out. Nothing to believe: all of them are planning's formula.
+-- Inside the calls, nothing to believe: the clauses that a cursor hands out. All of them are planning's formula.
 -- Assumes nothing.
 use mathlib.Core.Path.{_≡_}
 use mathlib.Core.Bool.{true}

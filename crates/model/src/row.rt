@@ -1,4 +1,5 @@
-// Is a row of clauses satisfied? A row holds up to 128 clauses, and most rows are satisfied whole by one literal: a few variables tell. `ws` is the table's sheet and `ix` its index.
+// Is a row of clauses satisfied? A row holds up to 128 clauses, and most rows are satisfied whole by one literal: a few variables tell. `ws` is the
+// table's sheet and `ix` its index.
 ghost use mathlib.Core.Path.{_≡_};
 ghost use mathlib.Core.Bool.{true};
 ghost use Prim.Native.Nat.{_+_, _<_};
@@ -35,7 +36,8 @@ fn has_on(values: &[u8], v: usize, k: usize) -> bool
 // Is one of node n's task variables true?
 fn has_task<'a, 'v>(ws: &'a [u64], ix: &'a [u64], values: &'v [u8], n: usize) -> bool
     requires { ⌜ InNode (tableIn (now ws)) (now ix) n ⌝ }
-    ensures { λ r. ⌜ r ≡ any (value (truthsIn (now (values .entry)))) (from ((node (tableIn (now (ws .entry))) n) .first) (tasksN (node (tableIn (now (ws .entry))) n))) ⌝ }
+    ensures { λ r. ⌜ r ≡ any (value (truthsIn (now (values .entry)))) (from ((node (tableIn (now (ws .entry))) n) .first)
+        (tasksN (node (tableIn (now (ws .entry))) n))) ⌝ }
 {
     has_on(values, shape::first(ws, ix, n), shape::tasks_of(ws, ix, n))
 }

@@ -10,7 +10,8 @@ use lib.Seq.{drop-cons, set-at, append-snoc, take-suc, sets, sets-eq, take-at, d
 use Rattle.lists.specs.List.{from, upTo}
 use Rattle.lists.proofs.Every.{concatMap-append}
 use Rattle.nodes.specs.declared.Node.{Node}
-use Rattle.nodes.specs.Nodes.{blank, nodeWords, wordsOf, recordAt, laid, gathered}
+use Rattle.nodes.specs.Nodes.{nodeWords, wordsOf, recordAt, laid, gathered}
+use Rattle.nodes.specs.Tree.{blank}
 
 -- Laid -------------------------------------------------------------------------------------------------------------------------------
 pub length-from : (k n : ℕ) → length (from k n) ≡ n

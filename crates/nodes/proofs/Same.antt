@@ -8,7 +8,8 @@ use lib.Dec.{eqb}
 use lib.ListN.{length, getD}
 use Rattle.lists.specs.List.{all, from, upTo}
 use Rattle.lists.proofs.Bool.{eqb-same}
-use Rattle.nodes.specs.Nodes.{blank, nodeWords, wordsOf}
+use Rattle.nodes.specs.Nodes.{nodeWords, wordsOf}
+use Rattle.nodes.specs.Tree.{blank}
 use Rattle.nodes.specs.Tree.{sameNode}
 use Rattle.nodes.specs.declared.Node.{Node}
 

@@ -1,19 +1,18 @@
 -- Records and their words, there and back.
 -- By one record after the other.
 use mathlib.Core.Path.{_≡_, refl, sym, ap, ap₂, _∙_}
-use mathlib.Core.List.{List, [], _∷_, map, _++_, map-append}
+use mathlib.Core.List.{List, [], _∷_, map, _++_}
 use mathlib.Core.Logic.{_⊎_, inl, inr}
 use Prim.Native.Nat.{ℕ, zero, suc, _+_, _-_, _*_, _≤_, _<_}
 use native.Mathlib.Omega.{arith}
 use borrow.Author.Tests.{lt-ltb, le-ltb}
-use lib.ListN.{length, getD, take, drop, length-map, length-append, length-drop}
-use lib.Seq.{take-all, length-take-le, getD-drop, drop-append-seam}
+use lib.ListN.{length, getD, take, drop, length-map}
+use lib.Seq.{take-all, length-take-le, getD-drop}
 use Rattle.lists.specs.List.{from, upTo}
 use Rattle.lists.proofs.Order.{le-or-lt}
-use Rattle.lists.proofs.Place.{from-add}
 use Rattle.nodes.specs.Nodes.{nodeWords, wordsOf, recordAt, laid, heldOf, gathered, recordsIn, lentIn}
 use Rattle.nodes.specs.declared.Node.{Node}
-use Rattle.nodes.proofs.Laws.{length-from, five}
+use Rattle.nodes.proofs.Laws.{length-from}
 
 -- Records from words -------------------------------------------------------------------------------------------------------------------
 -- record i + 1 is record i of the words behind the first five
@@ -68,28 +67,6 @@ map-both f g k zero h = refl
 map-both f g k (suc n) h =
     let z : k + 0 ≡ k = omega arith in
     ap₂ (λ (a : Node) (l : List Node). a ∷ l) (rw z at (h 0)) (map-both f g (suc k) n (λ i. let y : k + suc i ≡ suc k + i = omega arith in rw y at (h (suc i))))
-
-pub records-laid : (ms : List Node) (fs : List ℕ) → length ms ≤ 1024 → recordsIn (wordsOf ms ++ drop (length (wordsOf ms)) fs) ≡ ms ++ drop (length ms) (recordsIn fs)
-unfolding recordsIn
-records-laid ms fs h =
-    let k = length ms in
-    let W = wordsOf ms ++ drop (length (wordsOf ms)) fs in
-    let s : upTo 1024 ≡ upTo k ++ from (0 + k) (1024 - k) = ap upTo (split h) ∙ from-add 0 k (1024 - k) in
-    let z : 0 + k ≡ k = omega arith in
-    ap (map (recordAt W)) s ∙ map-append (recordAt W) (upTo k) (from (0 + k) (1024 - k))
-    ∙ ap₂ (λ (a b : List Node). a ++ b) (nodes-back ms (drop (length (wordsOf ms)) fs))
-    (ap (λ (j : ℕ). map (recordAt W) (from j (1024 - k))) z
-    ∙ map-both (recordAt W) (recordAt fs) k (1024 - k) (λ i. beyond ms (drop (length (wordsOf ms)) fs) i ∙ ap (λ (j : ℕ). recordAt (drop j fs) i) (five ms) ∙ dropped fs k i)
-    ∙ sym (ap (drop k) (ap (map (recordAt fs)) s ∙ map-append (recordAt fs) (upTo k) (from (0 + k) (1024 - k)))
-    ∙ ap (λ (j : ℕ). drop j (map (recordAt fs) (upTo k) ++ map (recordAt fs) (from (0 + k) (1024 - k)))) (sym (length-map (upTo k) (recordAt fs) ∙ length-from 0 k))
-    ∙ drop-append-seam (map (recordAt fs) (upTo k)) (map (recordAt fs) (from (0 + k) (1024 - k)))
-    ∙ ap (λ (j : ℕ). map (recordAt fs) (from j (1024 - k))) z))
-  where
-    split : {k : ℕ} → k ≤ 1024 → 1024 ≡ k + (1024 - k)
-    split l = omega arith
-
-pub written-length : (ms : List Node) (fs : List ℕ) → length ms ≤ 1024 → 5120 ≤ length fs → length (wordsOf ms ++ drop (length (wordsOf ms)) fs) ≡ length fs
-written-length ms fs h l = length-append (wordsOf ms) (drop (length (wordsOf ms)) fs) ∙ omega (arith, five ms, length-drop (length (wordsOf ms)) fs)
 
 -- Words from records ---------------------------------------------------------------------------------------------------------------------
 pub words-back : (n : ℕ) (fs : List ℕ) → n * 5 ≤ length fs → wordsOf (map (recordAt fs) (upTo n)) ≡ take (n * 5) fs

@@ -1,4 +1,4 @@
--- The lent tree records as node structs, and as words, five a record.
+-- Inside the calls, nothing to believe: the lent tree records as words, five a record.
 -- Assumes nothing.
 use mathlib.Core.Bool.{cond}
 use mathlib.Core.List.{List, [], _∷_, map, _++_}
@@ -7,10 +7,6 @@ use lib.Dec.{ltb}
 use lib.ListN.{length, getD, take, drop, replicate}
 use Rattle.lists.specs.List.{concatMap, upTo}
 use Rattle.nodes.specs.declared.Node.{Node}
-
--- the record of zeros, for a place past the last
-abbrev pub blank : Node
-blank = record { depth = 0; parent = 0; children = 0; steps = 0; jobs = 0 }
 
 -- a record's words, and those of records
 abbrev pub nodeWords : Node → List ℕ
@@ -21,7 +17,13 @@ wordsOf ns = concatMap nodeWords ns
 
 -- record i of those kept as words
 abbrev pub recordAt : List ℕ → ℕ → Node
-recordAt fs i = record { depth = getD fs (i * 5) 0; parent = getD fs (i * 5 + 1) 0; children = getD fs (i * 5 + 2) 0; steps = getD fs (i * 5 + 3) 0; jobs = getD fs (i * 5 + 4) 0 }
+recordAt fs i = record {
+  depth = getD fs (i * 5) 0;
+  parent = getD fs (i * 5 + 1) 0;
+  children = getD fs (i * 5 + 2) 0;
+  steps = getD fs (i * 5 + 3) 0;
+  jobs = getD fs (i * 5 + 4) 0;
+}
 
 -- the first n records from words, and the others as they were
 unfoldable pub laid : List ℕ → List Node → ℕ → List Node

@@ -9,7 +9,6 @@ use Rattle.lists.specs.List.{all, upTo}
 use Rattle.bitset.specs.Set.{setOf}
 use Rattle.planning.specs.Table.{Table}
 use Rattle.planning.specs.Record.{Record, records}
-use Rattle.nodes.specs.Nodes.{blank}
 use Rattle.nodes.specs.declared.Node.{Node}
 
 -- "A record holds the node's depth, its parent's number (0 at the root), its child count, and the sets of steps and of jobs it may
@@ -26,6 +25,10 @@ treeOf T = map nodeOf (records T)
 -- 1. "Are lent buffers long enough: 1,024 records for the tree ..?"
 abbrev pub enoughTree : List Node → Bool
 enoughTree tree = leb 1024 (length tree)
+
+-- the record of zeros, for a place past the last
+abbrev pub blank : Node
+blank = record { depth = 0; parent = 0; children = 0; steps = 0; jobs = 0 }
 
 -- 10. "Are the first lent tree records, as many as the table has nodes, those of this table?": every field of them is
 abbrev pub sameNode : Node → Node → Bool

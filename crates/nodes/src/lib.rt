@@ -1,9 +1,11 @@
-// The lent tree records, one a node: a slice of node structs behind a few thin functions. Each that is lent the slice is proved by hand. The crates above work over the
+// The lent tree records, one a node: a slice of node structs behind a few thin functions. Each that is lent the slice is proved by hand. The crates
+// above work over the
 // records' words, five a record: of a lent slice they take the length, and what its records hold goes through these functions alone.
 ghost use mathlib.Core.Path.{_≡_};
 ghost use Prim.Native.Nat.{_+_, _*_, _≤_, _<_};
 ghost use lib.ListN.{length, set, getD};
-ghost use Rattle.nodes.specs.Nodes.{blank, recordAt, laid, heldOf, gathered, lentWords};
+ghost use Rattle.nodes.specs.Nodes.{recordAt, laid, heldOf, gathered, lentWords};
+ghost use Rattle.nodes.specs.Tree.{blank};
 
 // Document 01's record of a node: its depth, its parent's number, its child count, the sets of steps and of jobs it may hold.
 // Other languages lend it too, so its fields lie in this order.

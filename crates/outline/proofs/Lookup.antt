@@ -6,7 +6,8 @@ use Prim.Native.Nat.{ℕ, _+_, _≤_}
 use native.Mathlib.Omega.{arith}
 use lib.ListN.{length}
 use lib.Seq.{slice}
-use Rattle.lines.specs.Parts.{Piece, linesOf, linesFrom}
+use Rattle.lines.specs.Parts.{Piece, linesOf}
+use Rattle.lines.specs.Cut.{linesFrom}
 use Rattle.grammar.specs.Name.{Name}
 use Rattle.outline.specs.Sections.{sections}
 use Rattle.outline.specs.Names.{namesOf, numberOf, declared}

@@ -16,7 +16,8 @@ use Rattle.lines.proofs.Cutting.{cut-first, cut-last, cut-more}
 use Rattle.lines.proofs.Lines.{from-last, from-more}
 use Rattle.lines.specs.Bytes.{LF, sameBytes}
 use Rattle.lines.specs.Cut.{Cut}
-use Rattle.lines.specs.Parts.{Piece, lineAt, linesFrom, noLine}
+use Rattle.lines.specs.Parts.{Piece, noLine}
+use Rattle.lines.specs.Cut.{lineAt, linesFrom}
 use Rattle.lists.proofs.Order.{le-or-lt, ne-lt}
 use Rattle.outline.specs.Index.{Entry, Held}
 use Rattle.outline.specs.Names.{allNew, among, namesOf, numberOf}

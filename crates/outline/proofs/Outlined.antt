@@ -1,6 +1,6 @@
 -- The outline of a file: the first of questions 2 to 6 that is not met.
 -- By cases on whether each is met.
-use mathlib.Core.Path.{_≡_, refl, sym, _∙_}
+use mathlib.Core.Path.{_≡_, refl, sym, ap, _∙_}
 use mathlib.Core.Bool.{Bool, true, false}
 use mathlib.Core.List.{List, [], _∷_}
 use Prim.Native.Nat.{ℕ, _+_, _≤_, _<_}
@@ -12,13 +12,15 @@ use Rattle.lists.specs.Question.{firstUnmet}
 use Rattle.lists.proofs.Question.{all-met}
 use Rattle.lists.proofs.Bool.{and-l}
 use Rattle.lists.specs.List.{all}
-use Rattle.lines.specs.Parts.{linesOf, linesFrom}
+use Rattle.lines.specs.Parts.{linesOf}
+use Rattle.lines.specs.Cut.{linesFrom}
 use Rattle.grammar.specs.File.{met2, met3}
 use Rattle.outline.specs.Sections.{sections}
 use Rattle.outline.specs.Names.{namesOf, allNew}
-use Rattle.outline.specs.Questions.{withinCounts, short, met4, met5, met6, questions2to5}
+use Rattle.outline.specs.Questions.{withinCounts, short, met4, met5, met6}
 use Rattle.outline.specs.Index.{Shaped, Held}
-use Rattle.outline.specs.Outlined.{questions2to6, Outlined}
+use Rattle.outline.specs.Outlined.{questions2to5, questions2to6, noOutline, Outlined}
+use Rattle.outline.specs.declared.Outline.{Outline}
 use Rattle.outline.specs.declared.Shape.{Shape}
 use Rattle.outline.specs.declared.Spans.{Spans}
 use Rattle.outline.proofs.Questions.{fifth, counts-small, sixth, declared-few}
@@ -77,9 +79,23 @@ ShapedAs s h = Shaped s (h .facts) (h .steps) (h .jobs) (h .methods) (h .«steps
 abbrev count : Shape → ℕ
 count h = h .facts + h .steps + h .jobs
 
+turned-down : {s : List ℕ} {q : ℕ} {r : Outline} → r ≡ noOutline q → q ≡ firstUnmet (questions2to6 s) → (q ≡ 0 → ⊥) → Outlined s r
+turned-down {s} {q} {r} d e n =
+    let z : r .question ≡ q = ap (λ (o : Outline). o .question) d in
+    record {
+      asked = z ∙ e;
+      nothing = λ h. d ∙ ap noOutline (sym z);
+      shaped = λ h. absurd (n (sym z ∙ h));
+      indexed = λ h. absurd (n (sym z ∙ h));
+    }
+
+pub outlined-second : {s : List ℕ} {r : Outline} → r ≡ noOutline 2 → met2 s ≡ false → Outlined s r
+unfolding questions2to6 questions2to5
+outlined-second d e = turned-down d (rw e) (λ z. omega arith)
+
 module _ (s : List ℕ) (h : Shape) (u : ShapedAs s h) where
-  pub outlined-early : (d : Spans) (q : ℕ) → q ≡ firstUnmet (questions2to5 s) → (q ≡ 0 → ⊥) → Outlined s (record { question = q; shape = h; names = d })
-  outlined-early d q e n = record { asked = refused-early s q e n; shaped = u; indexed = λ z. absurd (n z) }
+  pub outlined-early : {r : Outline} (q : ℕ) → r ≡ noOutline q → q ≡ firstUnmet (questions2to5 s) → (q ≡ 0 → ⊥) → Outlined s r
+  outlined-early q d e n = turned-down d (refused-early s q e n) n
 
   module _ (q : ℕ) (e : q ≡ firstUnmet (questions2to5 s)) (z : q ≡ 0) where
     met : Met2to5 s
@@ -95,11 +111,11 @@ module _ (s : List ℕ) (h : Shape) (u : ShapedAs s h) where
     pub enough : count h ≤ length (linesFrom s 0)
     enough = declared-few s (u .facts) (u .steps) (u .jobs)
 
-    pub outlined-sixth : (d : Spans) → allNew (namesOf (slice 0 (count h) (linesFrom s 0))) ≡ false → Outlined s (record { question = 6; shape = h; names = d })
+    pub outlined-sixth : {r : Outline} → r ≡ noOutline 6 → allNew (namesOf (slice 0 (count h) (linesFrom s 0))) ≡ false → Outlined s r
     unfolding questions2to6 questions2to5
     outlined-sixth d f =
         let g : met6 (sections (linesOf s)) ≡ false = sym (sixth s (u .facts) (u .steps) (u .jobs)) ∙ f in
-        record { asked = rw (met .second, met .third, met .fourth, met .fifth, g); shaped = u; indexed = λ y. absurd (omega (arith, y)) }
+        turned-down d (rw (met .second, met .third, met .fourth, met .fifth, g)) (λ z. omega arith)
 
     pub outlined : (d : Spans) → Held s (linesFrom s 0) (d .start) (d .size) (count h) → allNew (namesOf (slice 0 (count h) (linesFrom s 0))) ≡ true
         → Outlined s (record { question = 0; shape = h; names = d })
@@ -108,6 +124,7 @@ module _ (s : List ℕ) (h : Shape) (u : ShapedAs s h) where
         let g : met6 (sections (linesOf s)) ≡ true = sym (sixth s (u .facts) (u .steps) (u .jobs)) ∙ f in
         record {
           asked = rw (met .second, met .third, met .fourth, met .fifth, g);
-          shaped = u;
+          nothing = λ y. absurd (y refl);
+          shaped = λ y. u;
           indexed = λ y. record { facts = u .facts; steps = u .steps; jobs = u .jobs; few = few; held = k };
         }

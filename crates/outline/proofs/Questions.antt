@@ -15,14 +15,16 @@ use Rattle.grammar.specs.File.{met2, met3}
 use Rattle.grammar.specs.Line.{F, M, S, T, bodyIn, byteOf, nameIn}
 use Rattle.grammar.specs.Name.{Name, namesIn}
 use Rattle.lines.proofs.Lines.{from-all}
-use Rattle.lines.specs.Parts.{Piece, linesFrom, linesOf, noLine}
+use Rattle.lines.specs.Parts.{Piece, linesOf, noLine}
+use Rattle.lines.specs.Cut.{linesFrom}
 use Rattle.lists.proofs.Bool.{and-l, and-r, leb-sound}
 use Rattle.lists.specs.List.{all}
 use Rattle.lists.specs.Question.{firstUnmet}
 use Rattle.outline.proofs.Sections.{lead-past, parts-lines}
 use Rattle.outline.specs.Index.{Shaped}
 use Rattle.outline.specs.Names.{step, allDeclared, allNew, declared, fact, job, namesOf, task}
-use Rattle.outline.specs.Questions.{withinCounts, met4, met5, met6, questions2to5, short}
+use Rattle.outline.specs.Questions.{withinCounts, met4, met5, met6, short}
+use Rattle.outline.specs.Outlined.{questions2to5}
 use Rattle.outline.specs.Sections.{Sections, isEnd, leading, past, sections}
 
 -- Some lines that all pass a test ------------------------------------------------------------------------------------------
@@ -163,10 +165,6 @@ module _ {s : List ℕ} {f st j m atS atT atM atE : ℕ} (h : Shaped s f st j m 
       asked5-none e = rw (a, b, ← fourth, c, fifth, d, e)
 
 module _ (s : List ℕ) where
-  pub asked2 : met2 s ≡ false → 2 ≡ firstUnmet (questions2to5 s)
-  unfolding questions2to5
-  asked2 e = rw e
-
   pub asked3 : met2 s ≡ true → met3 (linesOf s) ≡ false → 3 ≡ firstUnmet (questions2to5 s)
   unfolding questions2to5
   asked3 a e = rw (a, e)

@@ -14,7 +14,8 @@ use Rattle.grammar.specs.Line.{F, I, M, R, S, T, begins, byteOf}
 use Rattle.lines.proofs.Lines.{from-all, from-last, from-more}
 use Rattle.lines.specs.Bytes.{LF}
 use Rattle.lines.specs.Cut.{Cut}
-use Rattle.lines.specs.Parts.{Piece, lineAt, linesFrom}
+use Rattle.lines.specs.Parts.{Piece}
+use Rattle.lines.specs.Cut.{lineAt, linesFrom}
 use Rattle.lists.proofs.Order.{le-or-lt, ne-lt}
 use Rattle.outline.specs.Index.{Runs, Shaped}
 use Rattle.outline.specs.Sections.{isEnd, leading, past, sections}

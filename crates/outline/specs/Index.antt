@@ -1,12 +1,12 @@
--- Inside the reader: what the code keeps of a file, which is counts of lines, places of sections, and the parts where names stand.
--- Contracts cite it; it follows from the definitions, and nothing here is to be believed.
--- Assumes nothing.
+-- Inside the reader, nothing to believe: what the code keeps of a file, which is counts of lines, places of sections, and the parts where
+-- names stand. Contracts cite it; it follows from the definitions. Assumes nothing.
 use mathlib.Core.Path.{_≡_}
 use mathlib.Core.List.{List}
 use Prim.Native.Nat.{ℕ, _+_, _≤_, _<_}
 use lib.ListN.{length, getD}
 use lib.Seq.{slice}
-use Rattle.lines.specs.Parts.{Piece, noLine, linesOf, linesFrom}
+use Rattle.lines.specs.Parts.{Piece, noLine, linesOf}
+use Rattle.lines.specs.Cut.{linesFrom}
 use Rattle.grammar.specs.Line.{F, S, T, byteOf, nameIn}
 use Rattle.outline.specs.Sections.{leading, past, sections}
 use Rattle.outline.specs.Part.{partOf}

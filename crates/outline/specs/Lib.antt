@@ -1,4 +1,5 @@
--- The outline of a table file: its sections, its limits and the names that it declares. Questions 4, 5 and 6. How to read it: the key at the head of crate `planning`'s specs/Lib.
+-- The outline of a table file: its sections, its limits and the names that it declares. Questions 4, 5 and 6.
+-- How to read it: the key at the head of crate `planning`'s specs/Lib.
 --
 -- the lines of each letter
 pub mod Sections

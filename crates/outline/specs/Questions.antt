@@ -1,16 +1,15 @@
--- Questions 4, 5 and 6, put to a whole file; and those from 2 on, one after the other.
+-- Questions 4, 5 and 6, put to a whole file.
 -- Assumes nothing.
 use mathlib.Core.Bool.{Bool, _&&_}
-use mathlib.Core.List.{List, [], _∷_}
+use mathlib.Core.List.{List}
 use Prim.Native.Nat.{ℕ}
 use lib.Dec.{leb}
 use lib.ListN.{length}
 use Rattle.lists.specs.List.{all}
 use Rattle.planning.specs.Table.{mostFacts, mostSteps, mostJobs, mostMethods, mostInBody}
-use Rattle.lines.specs.Parts.{Piece, linesOf}
+use Rattle.lines.specs.Parts.{Piece}
 use Rattle.grammar.specs.Line.{bodyIn}
-use Rattle.grammar.specs.File.{met2, met3}
-use Rattle.outline.specs.Sections.{Sections, sections, isEnd}
+use Rattle.outline.specs.Sections.{Sections, isEnd}
 use Rattle.outline.specs.Names.{allNew, allDeclared}
 
 -- "4. Is the line order kept?" The F, S, T and M lines are taken off the front in that order, so what is left must be the I and the R line.
@@ -36,8 +35,3 @@ met5 p = withinCounts (length (p .facts)) (length (p .steps)) (length (p .jobs))
 unfoldable pub met6 : Sections → Bool
 unfolding allDeclared allNew
 met6 p = allNew (allDeclared p)
-
--- the questions that are put before the names are looked at
-unfoldable pub questions2to5 : List ℕ → List (ℕ × Bool)
-unfolding met2 met3 met4 met5 linesOf sections
-questions2to5 s = let p = sections (linesOf s) in (2, met2 s) ∷ (3, met3 (linesOf s)) ∷ (4, met4 p) ∷ (5, met5 p) ∷ []

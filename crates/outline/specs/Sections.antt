@@ -32,7 +32,13 @@ sections ls =
     let s = past (byteOf F) ls in
     let t = past (byteOf S) s in
     let m = past (byteOf T) t in
-    record { facts = leading (byteOf F) ls; steps = leading (byteOf S) s; jobs = leading (byteOf T) t; methods = leading (byteOf M) m; ends = past (byteOf M) m }
+    record {
+      facts = leading (byteOf F) ls;
+      steps = leading (byteOf S) s;
+      jobs = leading (byteOf T) t;
+      methods = leading (byteOf M) m;
+      ends = past (byteOf M) m;
+    }
 
 -- "one I, one R last"
 unfoldable pub isEnd : List Piece → Bool

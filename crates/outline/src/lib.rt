@@ -1,17 +1,20 @@
 // The outline of a table file: its sections by counts and places, the parts where names are declared, the look-up of a name, and
 // questions 2 to 6. A part is two places of the file, as in crate `lines`. Inside the reader, as crate `grammar` is.
 ghost use mathlib.Core.Path.{_≡_};
+ghost use mathlib.Core.Bool.{true};
 ghost use Prim.Native.Nat.{_+_, _≤_, _<_};
 ghost use lib.ListN.{length};
 ghost use lib.Seq.{slice};
 ghost use Rattle.lists.specs.List.{all};
 ghost use Rattle.lists.specs.Question.{firstUnmet};
-ghost use Rattle.lines.specs.Parts.{linesOf, linesFrom, lineAt};
+ghost use Rattle.lines.specs.Parts.{linesOf};
+ghost use Rattle.lines.specs.Cut.{linesFrom, lineAt};
 ghost use Rattle.outline.specs.Sections.{sections, isEnd};
 ghost use Rattle.outline.specs.Names.{namesOf, numberOf, allNew, declared};
-ghost use Rattle.outline.specs.Questions.{withinCounts, short, questions2to5};
+ghost use Rattle.grammar.specs.File.{met2};
+ghost use Rattle.outline.specs.Questions.{withinCounts, short};
 ghost use Rattle.outline.specs.Index.{Runs, Shaped, Entry, Held, Indexed};
-ghost use Rattle.outline.specs.Outlined.{kindOf, Outlined};
+ghost use Rattle.outline.specs.Outlined.{kindOf, questions2to5, noOutline, Outlined};
 use grammar::are_lines;
 use grammar::count_names;
 use grammar::field_at;
@@ -139,14 +142,12 @@ fn bodies_fit(s: &[u8], at: usize, n: usize) -> bool
     true
 }
 
-// The first of questions 2 to 5 that is not met, or 0.
+// The first of questions 2 to 5 that is not met, or 0; 2 is met.
 fn first_unmet(s: &[u8], h: Shape) -> usize
-    requires { ⌜ Shaped (now s) (h .facts) (h .steps) (h .jobs) (h .methods) (h .«steps_at») (h .«jobs_at») (h .«methods_at») (h .«ends_at») ⌝ }
+    requires { ⌜ Shaped (now s) (h .facts) (h .steps) (h .jobs) (h .methods) (h .«steps_at») (h .«jobs_at») (h .«methods_at») (h .«ends_at»)
+        × (met2 (now s) ≡ true) ⌝ }
     ensures { λ r. ⌜ r ≡ firstUnmet (questions2to5 (now (s .entry))) ⌝ }
 {
-    if !fits_and_ends(s) {
-        return 2;
-    }
     if !are_lines(s) {
         return 3;
     }
@@ -295,33 +296,51 @@ pub fn look_up<'a>(
     }
 }
 
-// The first of questions 2 to 6 that is not met, or 0; where it is 0, the shape of the file and the names that it declares.
+// The first of questions 2 to 6 that is not met, or 0; then the shape of the file and the names that it declares.
 pub struct Outline {
     pub question: usize,
     pub shape: Shape,
     pub names: Spans,
 }
 
+fn refused(question: usize) -> Outline
+    ensures { λ r. ⌜ r ≡ noOutline question ⌝ }
+{
+    Outline {
+        question: question,
+        shape: Shape {
+            facts: 0,
+            steps: 0,
+            jobs: 0,
+            methods: 0,
+            steps_at: 0,
+            jobs_at: 0,
+            methods_at: 0,
+            ends_at: 0,
+        },
+        names: Spans {
+            start: [0; 192],
+            size: [0; 192],
+        },
+    }
+}
+
+// Question 2 comes before any walk of the file, so that a file of any length is turned down at once.
 pub fn outline_of(s: &[u8]) -> Outline
     ensures { λ r. ⌜ Outlined (now (s .entry)) r ⌝ }
 {
+    if !fits_and_ends(s) {
+        return refused(2);
+    }
     let h = find_shape(s);
     let q = first_unmet(s, h);
     if q != 0 {
-        return Outline {
-            question: q,
-            shape: h,
-            names: declare(s, 0),
-        };
+        return refused(q);
     }
     let n = h.facts + h.steps + h.jobs;
     let d = declare(s, n);
     if !are_new(s, &d.start, &d.size, 0, n) {
-        return Outline {
-            question: 6,
-            shape: h,
-            names: d,
-        };
+        return refused(6);
     }
     Outline {
         question: 0,

@@ -1,21 +1,14 @@
 -- Next after next, the cursor hands out every place of the formula, in order.
 -- Level by level: behind each position the later ones are left.
-use mathlib.Core.Path.{_≡_, refl, sym, ap, ap₂, _∙_, subst}
+use mathlib.Core.Path.{_≡_, refl, sym, ap₂, _∙_, subst}
 use mathlib.Core.List.{List, [], _∷_, _++_, append-assoc, append-nil}
-use Prim.Native.Nat.{ℕ, zero, suc, _+_, _-_, _≤_, _<_}
+use Prim.Native.Nat.{ℕ, zero, suc, _+_, _-_, _≤_}
 use native.Mathlib.Omega.{arith}
 use native.Mathlib.Numerals.{add-one}
-use lib.ListN.{length, getD, drop, drop-of-length-le, length-map, List·getD-map}
-use lib.Seq.{drop-cons}
 use Rattle.lists.specs.List.{concatMap, from}
-use Rattle.planning.specs.Table.{Table}
-use Rattle.planning.specs.Record.{records}
-use Rattle.planning.specs.Clause.{formula}
-use Rattle.places.specs.Nest.{upFrom, Pos, at, Shape, row, rows, columns, groupsFrom, nodesFrom, rulesFrom, positions, left}
-use Rattle.places.specs.ClausePlace.{Source, shape, placeAt, literals, sourceOf}
-use Rattle.places.specs.Cursor.{clause, done, after, answer, nextOf, begin, cursorAt}
-use Rattle.places.proofs.Walk.{left-start}
-use Rattle.places.proofs.Formula.{clauseAt, good, formula-places}
+use Rattle.places.specs.Nest.{upFrom, Pos, at, Shape, row, rows, columns, groupsFrom, nodesFrom, rulesFrom, left}
+use Rattle.places.specs.ClausePlace.{Source, shape}
+use Rattle.places.specs.Cursor.{after}
 
 module _ (S : Shape) where
   -- behind each of these the later ones are left, and then post
@@ -95,45 +88,8 @@ module _ (S : Shape) where
   pub left-behind : (c p : Pos) (ps : List Pos) → left S c ≡ p ∷ ps → left S (after p) ≡ ps
   left-behind c p ps e = subst (λ (l : List Pos). Chain l []) e (chain-left c) .0 ∙ append-nil ps
 
-  chain-at : (ps : List Pos) (d : Pos) (j : ℕ) → Chain ps [] → j < length ps → left S (after (getD ps j d)) ≡ drop (suc j) ps
-  chain-at [] d j c h = absurd (omega arith)
-  chain-at (p ∷ ps) d zero c h = c .0 ∙ append-nil ps
-  chain-at (p ∷ ps) d (suc j) c h = chain-at ps d j (c .1) (omega arith)
-
-  pub left-after : (j : ℕ) → j < length (positions S) → left S (after (getD (positions S) j begin)) ≡ drop (suc j) (positions S)
-  left-after j h = chain-at (positions S) begin j (chain-rules 0) h
-
 pub four-rules : (S : Source) → 1 ≤ (shape S) .rules
 unfolding shape
 four-rules S = omega arith
 
-getD-any : {A : Type 0} (xs : List A) (j : ℕ) (a b : A) → j < length xs → getD xs j a ≡ getD xs j b
-getD-any [] j a b h = absurd (omega arith)
-getD-any (x ∷ xs) zero a b h = refl
-getD-any (x ∷ xs) (suc j) a b h = getD-any xs j a b (omega arith)
-
-module _ (S : Source) where
-  -- what is left before clause j
-  pub left-at : (j : ℕ) → j ≤ length (positions (shape S)) → left (shape S) (cursorAt S j) ≡ drop j (positions (shape S))
-  left-at zero h = left-start (shape S) (good S) (four-rules S)
-  left-at (suc j) h = left-after (shape S) j (omega arith)
-
-  -- the place of clause j, and the cursor before clause j + 1
-  pub next-at : (j : ℕ) → j < length (positions (shape S)) → nextOf S (cursorAt S j) ≡ clause (placeAt S (getD (positions (shape S)) j begin)) (cursorAt S (suc j))
-  next-at j h = ap (answer S) (left-at j (omega arith) ∙ drop-cons (positions (shape S)) j begin h)
-
-  pub next-end : nextOf S (cursorAt S (length (positions (shape S)))) ≡ done
-  next-end = ap (answer S) (left-at (length (positions (shape S))) (omega arith) ∙ drop-of-length-le (positions (shape S)) {i = length (positions (shape S))} (omega arith))
-
 -- with a table's own records
-module _ (T : Table) where
-  pub places-count : length (positions (shape (sourceOf T (records T)))) ≡ length (formula T)
-  places-count = let S = sourceOf T (records T) in sym (length-map (positions (shape S)) (clauseAt S)) ∙ ap length (formula-places T)
-
-  pub literals-at : (j : ℕ) → j < length (formula T) →
-      let S = sourceOf T (records T) in
-      literals S (placeAt S (getD (positions (shape S)) j begin)) ≡ getD (formula T) j []
-  literals-at j h =
-      let S = sourceOf T (records T) in
-      sym (List·getD-map (clauseAt S) (positions (shape S)) j begin)
-      ∙ (ap (λ l. getD l j (clauseAt S begin)) (formula-places T) ∙ getD-any (formula T) j (clauseAt S begin) [] h)

@@ -13,9 +13,8 @@ pub mod Formula
 pub mod Cursor
 -- how many there are
 pub mod Total
--- the laws that code cites: a turn of the cursor, nodes and literals by number, what is there, how short the loops are
+-- the laws that code cites: the search for a line and the text from there on, nodes by number, what is there, how short the loops are
 pub mod Next
 pub mod Lookup
-pub mod Literals
 pub mod Valid
 pub mod Small

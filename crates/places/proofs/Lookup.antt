@@ -13,11 +13,13 @@ use Rattle.lists.proofs.Bool.{bool-cases, eqb-sound}
 use Rattle.planning.specs.Table.{Task, step, job, same, Table}
 use Rattle.planning.specs.Record.{Record}
 use Rattle.planning.specs.Clause.{pos, allPos, varOf}
-use Rattle.planning.proofs.Record.{LabelIn}
-use Rattle.places.specs.Flat.{inner, own, ownAll, jobsAt, childOf, childrenFrom, nodeOf, nodesFrom, tasksFrom, slotsFrom}
-use Rattle.places.specs.ClausePlace.{noNode}
-use Rattle.places.specs.Lookup.{recordAt, firstVar, slotsIn, boundary, ChildIn, rank, litIf, taskLit}
+use Rattle.places.specs.Flat.{inner, own, ownAll, childOf, childrenFrom, nodeOf, nodesFrom, tasksFrom, slotsFrom, Node}
+use Rattle.places.specs.ClausePlace.{noNode, noChild, childAt}
+use Rattle.places.specs.Lookup.{recordAt, firstVar, slotsIn, ChildIn, rank, litIf}
 use Rattle.places.proofs.Rank.{oneIf, filter-number}
+use Rattle.lists.proofs.Member.{in-getD}
+use Rattle.lists.proofs.Every.{every-out}
+use Rattle.planning.proofs.Record.{LabelIn}
 
 module _ (T : Table) where
   same-node : (r : Record) (rs : List Record) {n n′ b b′ : ℕ} → n ≡ n′ → b ≡ b′ → nodeOf T n b r rs ≡ nodeOf T n′ b′ r rs
@@ -36,26 +38,6 @@ module _ (T : Table) where
   nodes-length [] n b = refl
   nodes-length (r ∷ rs) n b = ap suc (nodes-length rs (suc n) (b + own T r))
 
-  slot-from : (rs : List Record) (k b : ℕ) → k < length rs → inner T (recordAt rs k) ≡ false
-      → getD (slotsFrom T b rs) (slotsIn T (take k rs)) [] ≡ number (b + ownAll T (take k rs)) ((recordAt rs k) .label .steps)
-  slot-from [] k b h e = absurd (omega arith)
-  slot-from (r ∷ rs) zero b h e = let z : b + 0 ≡ b = omega arith in rw (e, z)
-  slot-from (r ∷ rs) (suc k) b h e = go (inner T r) (slot-from rs k (b + own T r) (omega arith) e ∙ ap (λ m. number m ((recordAt rs k) .label .steps)) z)
-    where
-      z : b + own T r + ownAll T (take k rs) ≡ b + (own T r + ownAll T (take k rs))
-      z = omega arith
-
-      go : (i : Bool) → getD (slotsFrom T (b + own T r) rs) (slotsIn T (take k rs)) [] ≡ number (b + (own T r + ownAll T (take k rs))) ((recordAt rs k) .label .steps)
-          → getD (cond i (slotsFrom T (b + own T r) rs) (number b (r .label .steps) ∷ slotsFrom T (b + own T r) rs)) (cond i 0 1 + slotsIn T (take k rs)) []
-          ≡ number (b + (own T r + ownAll T (take k rs))) ((recordAt rs k) .label .steps)
-      go true q = let w : 0 + slotsIn T (take k rs) ≡ slotsIn T (take k rs) = omega arith in rw w q
-      go false q = let w : 1 + slotsIn T (take k rs) ≡ suc (slotsIn T (take k rs)) = omega arith in rw w q
-
-  -- the slot that node n is
-  pub slot-at : (rs : List Record) (n : ℕ) → n < length rs → inner T (recordAt rs n) ≡ false
-      → getD (slotsFrom T 1 rs) (boundary T rs n) [] ≡ number (firstVar T rs n) ((recordAt rs n) .label .steps)
-  slot-at rs n h e = slot-from rs n 1 h e ∙ ap (λ m. number m ((recordAt rs n) .label .steps)) (omega arith)
-
   pub slots-length : (rs : List Record) (b : ℕ) → length (slotsFrom T b rs) ≡ slotsIn T rs
   slots-length [] b = refl
   slots-length (r ∷ rs) b = go (inner T r) (slots-length rs (b + own T r))
@@ -70,11 +52,6 @@ module _ (T : Table) where
   first-next [] n h = absurd (omega arith)
   first-next (r ∷ rs) zero h = omega arith
   first-next (r ∷ rs) (suc n) h = omega (arith, first-next rs n (omega arith))
-
-  pub boundary-next : (rs : List Record) (n : ℕ) → n < length rs → boundary T rs (suc n) ≡ boundary T rs n + cond (inner T (recordAt rs n)) 0 1
-  boundary-next [] n h = absurd (omega arith)
-  boundary-next (r ∷ rs) zero h = omega arith
-  boundary-next (r ∷ rs) (suc n) h = omega (arith, boundary-next rs n (omega arith))
 
   -- children
   below : (rs : List Record) (n : ℕ) (r : Record) (qs : List Record) → drop n rs ≡ r ∷ qs → (n < length rs) × (recordAt rs n ≡ r) × (drop (suc n) rs ≡ qs)
@@ -141,11 +118,17 @@ job-lit k n b [] js j r =
     jobs-lit b j js ∙ (ap allPos (filter-number k n b js j r) ∙ (one-lit (has js j) (b + rank js j) j ∙ ap (litIf (has js j)) (omega arith)))
 job-lit k n b (s ∷ ss) js j r = job-lit k n (suc b) ss js j r ∙ ap (litIf (has js j)) (omega arith)
 
--- by the record
-pub task-lit : (T : Table) (r : Record) (b : ℕ) (t : Task) → LabelIn T (r .label) → varOf t (tasksFrom b (r .label .steps) (jobsAt T r)) ≡ taskLit T r b t
-task-lit T r b (step s) l = step-lit 0 (length (T .steps)) b (r .label .steps) (jobsAt T r) s (l .steps)
-task-lit T r b (job j) l = job-lit 0 (T .jobs) b (r .label .steps) (jobsAt T r) j (go (inner T r))
-  where
-    go : (i : Bool) → Rising 0 (T .jobs) (cond i (r .label .jobs) [])
-    go true = l .jobs
-    go false = tt
+-- Nodes and their children, from the records ------------------------------------------------------------------------------------
+pub every-at : {A : Type 0} (P : A → Type 0) (xs : List A) (d : A) (i : ℕ) → Every P xs → i < length xs → P (getD xs i d)
+every-at P xs d i h l = every-out P xs h (getD xs i d) (in-getD i xs d l)
+
+module _ (T : Table) (rs : List Record) (labels : Every (λ (r : Record). LabelIn T (r .label)) rs) where
+  -- node n as its record and its first variable have it
+  abbrev pub nodeIn : ℕ → Node
+  nodeIn n = nodeOf T n (firstVar T rs n) (recordAt rs n) (drop (suc n) rs)
+
+  module _ (n : ℕ) (inside : n < length rs) where
+    -- child y, with its number
+    pub child-in : (y : ℕ) → y < length ((nodeIn n) .children) → ChildIn T rs n (childAt (nodeIn n) y)
+    child-in y h = every-at (ChildIn T rs n) ((nodeIn n) .children) noChild y
+        (children-known T rs n (drop (suc n) rs) ((recordAt rs n) .children) (suc n) _ refl (sym (first-next T rs n inside))) h

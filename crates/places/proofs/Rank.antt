@@ -11,10 +11,10 @@ use lib.ListN.{length}
 use lib.Dec.{eqb, ltb}
 use borrow.Author.Tests.{lt-ltb, le-ltb}
 use Rattle.lists.specs.List.{filter, number, Every, from, upTo, has, Rising}
-use Rattle.lists.proofs.Bool.{bool-cases, clash, eqb-same, eqb-other}
-use Rattle.lists.proofs.Member.{in-filter-out, in-filter-in, has-in, has-not}
+use Rattle.lists.proofs.Bool.{eqb-same, eqb-other}
+use Rattle.lists.proofs.Member.{in-filter-out, has-not}
 use Rattle.lists.proofs.Every.{every-of}
-use Rattle.lists.proofs.Number.{from-range, from-in, upTo-range}
+use Rattle.lists.proofs.Number.{from-range, upTo-range}
 use Rattle.lists.proofs.Order.{le-or-lt, ne-lt}
 use Rattle.lists.proofs.Rising.{rising-range}
 use Rattle.lists.proofs.Place.{from-add, filter-append}
@@ -65,14 +65,6 @@ filter-number k n b (x ∷ xs) s r = go (ℕ-discrete s x) (filter-number (suc x
 
 -- Sets given by a test ---------------------------------------------------------------------------------------------------------
 module _ (p : ℕ → Bool) where
-  -- is i in the set?
-  pub has-keep : (k c i : ℕ) → k ≤ i → i < k + c → has (filter p (from k c)) i ≡ p i
-  has-keep k c i h l = go (bool-cases (p i))
-    where
-      go : (p i ≡ true) ⊎ (p i ≡ false) → has (filter p (from k c)) i ≡ p i
-      go (inl t) = has-in (filter p (from k c)) i (in-filter-in p i (from k c) (from-in i k c h l) t) ∙ sym t
-      go (inr f) = has-not (filter p (from k c)) i (λ m. clash (in-filter-out p i (from k c) m .1) f) ∙ sym f
-
   -- the place of i in the set: how many come before it
   pub rank-keep : (k c i : ℕ) → k ≤ i → i ≤ k + c → rank (filter p (from k c)) i ≡ length (filter p (from k (i - k)))
   rank-keep k c i h l =

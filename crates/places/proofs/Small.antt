@@ -23,7 +23,7 @@ use Rattle.places.specs.Flat.{inner as innerNode, jobsAt, methodsAt, own
 use Rattle.places.specs.ClausePlace.{noChild, noNode, childAt, width, nodeAt, slotAt, Group, noGroup, namedAt, nodeGroups, effectFacts, slotGroups, groupAt, nodesIn, rowLen, sourceOf}
 use Rattle.places.specs.Lookup.{noRecord, recordAt, firstVar}
 use Rattle.places.proofs.Lookup.{node-at, nodes-length}
-use Rattle.places.proofs.Literals.{nodeIn, child-in, every-at}
+use Rattle.places.proofs.Lookup.{nodeIn, child-in, every-at}
 
 pub rising-length : (k n : ℕ) (xs : List ℕ) → Rising k n xs → length xs ≤ n - k
 rising-length k n [] r = omega arith

@@ -12,13 +12,12 @@ use lib.Dec.{ltb}
 use borrow.Author.Tests.{lt-ltb, le-ltb}
 use Rattle.lists.specs.List.{concatMap, number, from, upTo}
 use Rattle.lists.proofs.Number.{length-from, number-length}
-use Rattle.planning.specs.Table.{Table, bodyOf}
+use Rattle.planning.specs.Table.{Table}
 use Rattle.planning.specs.Record.{records}
 use Rattle.planning.specs.Clause.{Clause, formula}
 use Rattle.planning.proofs.Sizes.Count.{pairs-count}
 use Rattle.places.specs.Nest.{at, groupsFrom, nodesFrom, rulesFrom, positions, left}
-use Rattle.places.specs.Flat.{Node}
-use Rattle.places.specs.ClausePlace.{Source, childAt, width, tasksN, methodAt, nodeAt, slotAt, Group, pairGroup, groupAt, groupsIn, nodesIn, shape, literals, sourceOf}
+use Rattle.places.specs.ClausePlace.{Source, tasksN, nodeAt, slotAt, Group, pairGroup, groupAt, groupsIn, nodesIn, shape, literals, sourceOf}
 use Rattle.places.specs.Total.{sumTo, groupCount, pairCount, widthsTo, bodyCount, passCount, nodeCount, effectCount, slotCount, countAt, clauseCount}
 use Rattle.places.proofs.Index.{concatMap-shift}
 use Rattle.places.proofs.Groups.{rowClauses, groupClauses, pair-clauses}
@@ -169,12 +168,3 @@ module _ (w : ℕ → ℕ) (l : ℕ) where
 sumTo-more : (w : ℕ → ℕ) (l d : ℕ) → sumTo w l ≤ sumTo w (l + d)
 sumTo-more w l zero = let z : l + 0 ≡ l = omega arith in rw z (omega arith)
 sumTo-more w l (suc d) = let z : l + suc d ≡ suc (l + d) = omega arith in rw z (omega (arith, sumTo-more w l d))
-
--- (e) of a method whose body has l names, among the node's k children: l, and the task variables of the later children
-pub body-count : (T : Table) (N : Node) (x : ℕ) → let l = length (bodyOf T (methodAt N x)) in
-    l ≤ length (N .children) → bodyCount T N x ≡ l + (widthsTo N (length (N .children)) - widthsTo N l)
-body-count T N x h =
-    let l = length (bodyOf T (methodAt N x)) in
-    let d = length (N .children) - l in
-    let e : l + d ≡ length (N .children) = omega arith in
-    omega (arith, rw e at (named-sum (λ y. width (childAt N y)) l d), rw e at (sumTo-more (λ y. width (childAt N y)) l d))

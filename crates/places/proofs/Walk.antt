@@ -131,11 +131,3 @@ module _ (S : Shape) (good : Good S) where
           module _ (lastN : S .nodes r ≤ n + 1) where
             nodes-none : nodesFrom S r (n + 1) ≡ []
             nodes-none = upFrom-end (λ z. groupsFrom S r z 0) (n + 1) (S .nodes r) lastN
-
-            pub left-rule : r + 1 < S .rules → left S (at r n g x y i) ≡ left S (at (r + 1) 0 0 0 0 0)
-            unfolding left
-            left-rule h = rw (row-none, rows-none, columns-none, groups-none, nodes-none) (fresh-rules (r + 1) h)
-
-            pub left-end : S .rules ≤ r + 1 → left S (at r n g x y i) ≡ []
-            unfolding left
-            left-end h = rw (row-none, rows-none, columns-none, groups-none, nodes-none) (upFrom-end (λ z. nodesFrom S z 0) (r + 1) (S .rules) h)

@@ -1,8 +1,8 @@
--- The place of a clause, its literals, and the nest of loops that goes through all places in the order of the formula.
--- Assumes nothing.
+-- Inside the encoding, nothing to believe: the place of a clause, its literals, and the nest of loops that goes through all places in the
+-- order of the formula. Assumes nothing.
 use mathlib.Core.Bool.{Bool, _&&_, cond}
 use mathlib.Core.List.{List, [], _∷_, _++_}
-use Prim.Native.Nat.{ℕ, suc, _+_, _-_, _<_}
+use Prim.Native.Nat.{ℕ, suc, _+_, _-_}
 use lib.ListN.{length, getD}
 use lib.Dec.{eqb, ltb}
 use Rattle.lists.specs.List.{filter, has}
@@ -210,19 +210,3 @@ placeAt S p = (groupAt S (p .rule) (p .node) (p .group)) .place (p .x) (p .y) (p
 -- the source worked out from a table's records
 abbrev pub sourceOf : Table → List Record → Source
 sourceOf T rs = record { table = T; nodes = nodesOf T rs; slots = slotsFrom T 1 rs; facts = suc (ownAll T rs) }
-
--- what a place that the cursor hands out names is there
-abbrev pub ValidPlace : Source → ClausePlace → Type 0
-ValidPlace S root = Unit {0}
-ValidPlace S (both v w) = Unit {0}
-ValidPlace S (methodsOf n x) = (n < length (S .nodes)) × (x < length ((nodeAt S n) .jobs))
-ValidPlace S (jobOfMethod n x) = (n < length (S .nodes)) × (x < length ((nodeAt S n) .methods))
-ValidPlace S (bodyTask n x y) =
-    (n < length (S .nodes)) × (x < length ((nodeAt S n) .methods)) × (y < length ((nodeAt S n) .children))
-    × (y < length (bodyOf (S .table) (methodAt (nodeAt S n) x)))
-ValidPlace S (inherited n x) = (n < length (S .nodes)) × (x < length ((nodeAt S n) .steps)) × (0 < length ((nodeAt S n) .children))
-ValidPlace S (up n v) = n < length (S .nodes)
-ValidPlace S (start f) = f < S .table .facts
-ValidPlace S (effect v w) = Unit {0}
-ValidPlace S (fall n f) = (n < length (S .slots)) × (f < S .table .facts)
-ValidPlace S (rise n f) = (n < length (S .slots)) × (f < S .table .facts)

@@ -1,9 +1,9 @@
--- The cursor: a position. What its method hands back: the next clause's place and itself advanced, or the end.
--- Assumes nothing.
+-- Inside the encoding, nothing to believe: the cursor, which is a position, and what its method hands back, the next clause's place and itself
+-- advanced, or the end. Assumes nothing.
 use mathlib.Core.Path.{_≡_}
 use mathlib.Core.List.{List, [], _∷_, map}
-use Prim.Native.Nat.{ℕ, zero, suc, _+_, _*_}
-use lib.ListN.{length, getD, drop}
+use Prim.Native.Nat.{ℕ, _+_}
+use lib.ListN.{drop}
 use Rattle.planning.specs.Clause.{Clause}
 use Rattle.planning.specs.Text.{clauseLine}
 use Rattle.places.specs.Nest.{Pos, at, positions, left}
@@ -28,11 +28,6 @@ nextOf S c = answer S (left (shape S) c)
 abbrev pub begin : Pos
 begin = at 0 0 0 0 0 0
 
--- the cursor before clause j, counted from 0
-abbrev pub cursorAt : Source → ℕ → Pos
-cursorAt S zero = begin
-cursorAt S (suc j) = after (getD (positions (shape S)) j begin)
-
 -- the places that the cursor has yet to hand out, their clauses, their lines
 abbrev pub placesLeft : Source → Pos → List ClausePlace
 placesLeft S c = map (placeAt S) (left (shape S) c)
@@ -42,10 +37,6 @@ clausesLeft S c = map (literals S) (placesLeft S c)
 
 abbrev pub linesLeft : Source → Pos → List (List ℕ)
 linesLeft S c = map clauseLine (clausesLeft S c)
-
--- how many variables there are
-abbrev pub variableCount : Source → (nodeVars : ℕ) → ℕ
-variableCount S n = n + suc (length (S .slots)) * S .table .facts
 
 -- on the way to line j + 1: k clauses from the cursor on are still to be passed over
 pub record Seeking (S : Source) (j k : ℕ) (c : Pos) : Type 0 where

@@ -1,4 +1,4 @@
--- What the cursor knows of a node, worked out from the tree records alone.
+-- Inside the encoding, nothing to believe: what the cursor knows of a node, worked out from the tree records alone.
 -- Assumes nothing.
 use mathlib.Core.Bool.{Bool, true, false, _&&_, cond}
 use mathlib.Core.List.{List, [], _∷_, _++_, map}
@@ -51,8 +51,8 @@ pub record Child : Type 0 where
 abbrev pub childOf : Table → (n b : ℕ) → Record → Child
 childOf T n b r = record { node = n; first = b; steps = r .label .steps; jobs = jobsAt T r }
 
--- the first k children of node u among the records from node n on, whose first variable is b: "first child is n + 1; the next child is
--- the next node after it with the same parent"
+-- the first k children of node u among the records from node n on, whose first variable is b: the first child is
+-- n + 1, and the next child is the next node after it with the same parent
 abbrev pub childrenFrom : Table → (u k n b : ℕ) → List Record → List Child
 childrenFrom T u zero n b rs = []
 childrenFrom T u (suc k) n b [] = []

@@ -1,4 +1,4 @@
--- What the code looks up: by node number, from the records.
+-- Inside the encoding, nothing to believe: what the code looks up, by node number, from the records.
 -- Assumes nothing.
 use mathlib.Core.Path.{_≡_}
 use mathlib.Core.Bool.{Bool, true, false, cond}
@@ -6,11 +6,10 @@ use mathlib.Core.List.{List, [], _∷_}
 use Prim.Native.Nat.{ℕ, suc, _+_, _<_}
 use lib.ListN.{length, getD, take}
 use lib.Dec.{ltb}
-use Rattle.lists.specs.List.{has}
-use Rattle.planning.specs.Table.{Task, step, job, Table}
+use Rattle.planning.specs.Table.{Table}
 use Rattle.planning.specs.Record.{Record}
 use Rattle.planning.specs.Clause.{pos, Clause}
-use Rattle.places.specs.Flat.{inner, ownAll, jobsAt, Child, childOf}
+use Rattle.places.specs.Flat.{inner, ownAll, Child, childOf}
 
 abbrev pub noRecord : Record
 noRecord = record { depth = 0; parent = 0; children = 0; label = record { steps = []; jobs = [] } }
@@ -46,8 +45,3 @@ rank (x ∷ xs) s = cond (ltb x s) 1 0 + rank xs s
 abbrev pub litIf : Bool → ℕ → Clause
 litIf true v = pos v ∷ []
 litIf false v = []
-
--- the variable of task t at a node with record r and first variable b: the task's place in its set; none "if that task has no variable"
-abbrev pub taskLit : Table → Record → (b : ℕ) → Task → Clause
-taskLit T r b (step s) = litIf (has (r .label .steps) s) (b + rank (r .label .steps) s)
-taskLit T r b (job j) = litIf (has (jobsAt T r) j) (b + length (r .label .steps) + rank (jobsAt T r) j)

@@ -1,5 +1,5 @@
--- Positions in a nest of loops, in order, and what is left from a position on. A cursor is such a position.
--- Assumes nothing.
+-- Inside the encoding, nothing to believe: positions in a nest of loops, in order, and what is left from a position on. A cursor is such a
+-- position. Assumes nothing.
 use mathlib.Core.Path.{_≡_}
 use mathlib.Core.List.{List, [], _∷_, _++_}
 use Prim.Native.Nat.{ℕ, _+_, _-_, _≤_}

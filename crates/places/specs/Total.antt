@@ -1,4 +1,4 @@
--- How many clauses there are: in a row, a group, a node, a slot, in all.
+-- Inside the encoding, nothing to believe: how many clauses there are, in a row, a group, a node, a slot, in all.
 -- Assumes nothing.
 use mathlib.Core.List.{List, [], _∷_}
 use mathlib.Core.Bool.{cond}

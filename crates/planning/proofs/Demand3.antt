@@ -12,12 +12,12 @@ use native.Mathlib.Decide.{decLt}
 use lib.ListN.{length, take, length-append, List·getD-append}
 use lib.Seq.{ext-getD, getD-append-add}
 use Rattle.lists.proofs.Bool.{some-inj}
-use Rattle.planning.specs.Table.{job, Table, Sound}
+use Rattle.planning.specs.Table.{job, Table}
 use Rattle.planning.specs.Tree.{Tree, top, height, TreeOf, State, initial, run, can}
 use Rattle.planning.specs.Variable.{nodeVars, slots, factVar, firstFactVar}
 use Rattle.planning.specs.Clause.{Clause, rule3, rule4}
 use Rattle.planning.specs.Model.{Valuation, satisfies, value, Model, chosen, given, Gives}
-use Rattle.planning.specs.Demand3.{Wanted, Demand3, EqualAtEvery, GiveSame, GivenByAModel}
+use Rattle.planning.specs.Demand3.{Wanted, Demand3, EqualAtEvery, GiveSame, GivenByAModel, ForEverySoundTable}
 use Rattle.planning.proofs.Tree.{same-tree-equal}
 use Rattle.planning.proofs.Satisfy.{listOf, slotSteps, sat-l, sat-r, sat-in}
 use Rattle.planning.proofs.Trees.Whole.{treeFormula, treeOf, gives-a-tree, same-tree, every-tree, steps-in-order, one-at-a-slot}
@@ -149,5 +149,5 @@ module _ (T : Table) (needed : NeedsIn T) where
     exact = λ t w. (λ r. wanted h t (r .values) (r .model) (r .gives), model-of t w);
   }
 
-pub demand3 : (T : Table) → Sound T → Demand3 T
+pub demand3 : ForEverySoundTable
 demand3 T s = demand3-of T (needs-in T (s .steps)) (s .root)

@@ -12,6 +12,7 @@ pub mod Satisfy
 pub mod Trees
 pub mod Facts
 pub mod Demand3
--- how many there are: tasks and children of a node, clauses of a part, literals, bytes of a line
+-- how many there are: tasks and children of a node, clauses of a part, literals, bytes of a line; what is promised of formula and text
 pub mod Sizes
 pub mod Text
+pub mod Promises

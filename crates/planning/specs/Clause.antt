@@ -92,7 +92,8 @@ abbrev mutual
   pub rule2 : Table → Place → ℕ → List Clause
   rule2 T (slot L) b = pairs (taskVars (slot L) b)
   rule2 T (inner L ps) b =
-      innerClauses T (taskVars (inner L ps) b) (methodVars T (inner L ps) b) (childVars T ps (b + ownVars T (inner L ps))) ++ rules2 T ps (b + ownVars T (inner L ps))
+      innerClauses T (taskVars (inner L ps) b) (methodVars T (inner L ps) b) (childVars T ps (b + ownVars T (inner L ps)))
+      ++ rules2 T ps (b + ownVars T (inner L ps))
 
   pub rules2 : Table → Places → ℕ → List Clause
   rules2 T stop b = []
@@ -142,6 +143,7 @@ rule4 T b i [] = []
 rule4 T b i (xs ∷ xss) = (concatMap (effectClauses T b i) xs ++ frameClauses T b i xs) ++ rule4 T b (suc i) xss
 
 -- The formula --------------------------------------------------------------------------------------------------------------
--- a formula in conjunctive normal form (CNF). "The formula is the clauses below over these variables, defined by the table and not by lent records." "Clauses, in this order"
+-- a formula in conjunctive normal form (CNF).
+-- "The formula is the clauses below over these variables, defined by the table and not by lent records." "Clauses, in this order"
 abbrev pub formula : Table → List Clause
 formula T = rule1 T ++ (rule2 T (rootPlace T) 1 ++ (rule3 T (firstFactVar T) ++ rule4 T (firstFactVar T) 0 (slots T)))

@@ -85,7 +85,8 @@ treeAt T (some (job j)) (some m) below = splitWith j m (below (bodyOf T m))
 abbrev mutual
   pub read : Table → Valuation → Place → ℕ → Option Tree
   read T v (slot L) b = treeAt T (chosen v (taskVars (slot L) b)) none (λ ts. none)
-  read T v (inner L ps) b = treeAt T (chosen v (taskVars (inner L ps) b)) (chosen v (methodVars T (inner L ps) b)) (λ ts. reads T v ps (b + ownVars T (inner L ps)) ts)
+  read T v (inner L ps) b = treeAt T (chosen v (taskVars (inner L ps) b)) (chosen v (methodVars T (inner L ps) b))
+      (λ ts. reads T v ps (b + ownVars T (inner L ps)) ts)
 
   -- "for each name of its body in order, the tree read at that child"
   pub reads : Table → Valuation → Places → ℕ → List Task → Option Trees

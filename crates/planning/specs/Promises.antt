@@ -1,14 +1,15 @@
--- What is promised of the formula and its text to the crates that write and read them. The statements alone; proofs/Sizes/Small.antt
--- proves the first of every sound table, proofs/Text the others. Assumes nothing.
+-- What is promised of the formula and its text to the crates that write and read them. The statements alone; proofs/Promises.antt proves
+-- them, in the record at the end. Assumes nothing.
 use mathlib.Core.Path.{_≡_}
 use mathlib.Core.List.{List, [], _∷_, _++_}
 use Prim.Native.Nat.{ℕ, suc, _+_, _-_, _*_, _≤_, _<_}
 use lib.ListN.{length, getD, take, drop}
 use Rattle.lists.specs.List.{_∈_, Every, concat}
-use Rattle.planning.specs.Table.{Table}
+use Rattle.planning.specs.Table.{Table, Sound}
 use Rattle.planning.specs.Variable.{variables}
 use Rattle.planning.specs.Clause.{Lit, Clause, variableOf, formula}
 use Rattle.planning.specs.Text.{decimal, lines, written, nextLine}
+use Rattle.planning.specs.Accepted.{Accepted}
 
 -- every literal lies in 1 to the variable count
 abbrev pub LiteralsInRange : Table → Type 0
@@ -47,7 +48,14 @@ pub record Call (T : Table) (j n : ℕ) : Type 0 where
   pub next : nextLine T j n ≡ j + count
   pub goes-on : concat (drop j (lines T)) ≡ written T j n ++ concat (drop (nextLine T j n) (lines T))
 
--- of an accepted table: no line is longer than the smallest buffer that is taken, so that each call gets on while a line is left
+-- no line is longer than the smallest buffer that is taken, so that each call gets on while a line is left
 pub record Lines (T : Table) : Type 0 where
   pub short : (l : List ℕ) → l ∈ lines T → length l ≤ 1024
   pub gets-on : (j n : ℕ) → 1024 ≤ n → j < length (lines T) → j < nextLine T j n
+
+-- Of what they hold ----------------------------------------------------------------------------------------------------------
+pub record Promises : Type 0 where
+  pub literals : (T : Table) → Sound T → LiteralsInRange T
+  pub numerals : (n : ℕ) → Numeral n
+  pub calls : (T : Table) (j n : ℕ) → Call T j n
+  pub lines-short : (T : Table) → Accepted T → Lines T

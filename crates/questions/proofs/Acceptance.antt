@@ -1,8 +1,9 @@
 -- What an accepted file's table is like.
 -- By the promises of the reader.
-use mathlib.Core.Path.{_≡_, refl, ap, subst}
+use mathlib.Core.Path.{_≡_, refl, sym, ap, subst}
+use mathlib.Core.Bool.{Bool, true, false}
 use mathlib.Core.List.{List, [], _∷_}
-use Prim.Native.Nat.{ℕ, zero, suc}
+use Prim.Native.Nat.{ℕ, zero, suc, _≤_}
 use native.Mathlib.Omega.{arith}
 use Rattle.lists.specs.Question.{firstUnmet}
 use Rattle.lists.proofs.Bool.{leb-sound}
@@ -56,3 +57,17 @@ module _ (file : List ℕ) (T : Table) (e : accepting file ≡ accepted T) where
 
   pub names-are : namesOf file ≡ (was-read file T e) .names
   names-are = ap namesAfter ((was-read file T e) .read)
+
+-- a refusal is by one of questions 2 to 9
+pub unmet-range : (file : List ℕ) (n : ℕ) → accepting file ≡ unmet n → (2 ≤ n) × (n ≤ 9)
+unmet-range file n e = go (reading file) refl e
+  where
+    by : (q : ℕ) (a b : Bool) (t : Table) → q ≡ firstUnmet ((8, a) ∷ (9, b) ∷ []) → ifMet q t ≡ unmet n → (2 ≤ n) × (n ≤ 9)
+    by zero a b t h f = never (sym f)
+    by (suc q) true true t h f = absurd (omega arith)
+    by (suc q) true false t h f = let z : suc q ≡ n = cc in (omega arith, omega arith)
+    by (suc q) false b t h f = let z : suc q ≡ n = cc in (omega arith, omega arith)
+
+    go : (r : Reading) → reading file ≡ r → afterReading r ≡ unmet n → (2 ≤ n) × (n ≤ 9)
+    go (refused m) q f = let z : m ≡ n = cc in let k = promises .unmet file m q in (omega (arith, k .0), omega (arith, k .1))
+    go (passed t ns) q f = by (firstUnmet ((8, met8 t) ∷ (9, met9 t) ∷ [])) (met8 t) (met9 t) t refl f

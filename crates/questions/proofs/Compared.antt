@@ -30,6 +30,7 @@ use Rattle.nodes.proofs.Words.{nodes-words, length-nodes}
 use Rattle.nodes.proofs.Same.{words-same}
 use Rattle.tree.specs.Words.{recordWords, treeWords}
 use Rattle.tree.specs.Visit.{Known}
+use Rattle.shape.specs.Shape.{Indexed}
 use Rattle.nodes.specs.declared.Node.{Node}
 use Rattle.questions.specs.Parts.{Placed}
 
@@ -107,6 +108,10 @@ lent-front T tree {n} z t h =
     getD-take n tree i 0 k
     ∙ eqb-sound (getD tree i 0) (getD (treeWords (records T)) i 0) (all-out (λ i. eqb (getD tree i 0) (getD (treeWords (records T)) i 0)) (upTo (length (treeWords (records T)))) t i (upTo-in i (length (treeWords (records T))) (omega arith))))
 
+-- the index of a table's own records
+pub index-front : (T : Table) → Accepted T → {o o′ : List ℕ} {m : ℕ} → Wrote o 0 (indexOf T) o′ m → Indexed T (take m o′)
+index-front T a w = record { accepted = a; index = wrote-front w }
+
 pub not-placed : {T : Table} {tree : List Node} → met10 T tree ≡ false → {ix : List ℕ} → Placed T tree ix 0
 not-placed e {ix} = record { unmet = λ z. e; met = λ u. absurd (u refl); index = λ u. absurd (u refl); room = omega arith }
 
@@ -114,6 +119,6 @@ pub is-placed : {T : Table} {tree : List Node} → Accepted T → met10 T tree �
 is-placed a e {ix} {ix′} {r} h w = record {
   unmet = λ z. absurd (omega (arith, w .end));
   met = λ u. e;
-  index = λ u. record { accepted = a; index = wrote-front w };
+  index = λ u. index-front _ a w;
   room = wrote-room w;
 }

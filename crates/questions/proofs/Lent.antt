@@ -14,7 +14,8 @@ use Rattle.lists.proofs.Order.{le-or-lt}
 use Rattle.planning.specs.Table.{Table}
 use Rattle.planning.specs.Record.{records}
 use Rattle.planning.proofs.Record.{records-count}
-use Rattle.nodes.specs.Nodes.{blank, heldOf, gathered, recordsIn, lentIn}
+use Rattle.nodes.specs.Nodes.{heldOf, gathered, recordsIn, lentIn}
+use Rattle.nodes.specs.Tree.{blank}
 use Rattle.nodes.specs.Tree.{nodeOf, treeOf, enoughTree, sameNode, met10}
 use Rattle.nodes.specs.declared.Node.{Node}
 use Rattle.nodes.proofs.Laws.{length-gathered}

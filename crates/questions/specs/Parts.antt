@@ -1,4 +1,4 @@
--- Inside the calls: what the functions of this crate say. Nothing to believe.
+-- Inside the calls, nothing to believe: what the functions of this crate say.
 -- Assumes nothing.
 use mathlib.Core.Path.{_≡_}
 use mathlib.Core.Bool.{true, false}
@@ -18,13 +18,14 @@ use Rattle.questions.specs.Questions.{met8, met9, ifMet, accepting, name
 use Rattle.questions.specs.declared.Measure.{Measure}
 use Rattle.questions.specs.declared.Prepared.{Prepared}
 
--- questions 8 and 9 were put
+-- questions 8 and 9 were put. Left free: the counts, where one is not met
 pub record Measured (T : Table) (r : Measure) : Type 0 where
   pub question : r .question ≡ firstUnmet ((8, met8 T) ∷ (9, met9 T) ∷ [])
   pub nodes : r .question ≡ 0 → r .nodes ≡ nodes (rootPlace T)
   pub variables : r .question ≡ 0 → r .variables ≡ variables T
 
--- questions 2 to 9 were put; where all are met, T is the table
+-- questions 2 to 9 were put; where all are met, T is the table. Left free: where one is not met, the counts, the table beside the number and
+-- the sheet
 pub record IsPrepared (file : List ℕ) (T : Table) (r : Prepared) : Type 0 where
   pub verdict : ifMet (r .question) T ≡ accepting file
   pub accepted : r .question ≡ 0 → Accepted T
@@ -33,7 +34,8 @@ pub record IsPrepared (file : List ℕ) (T : Table) (r : Prepared) : Type 0 wher
   pub table : r .question ≡ 0 → T ≡ tableFrom (r .table)
   pub names : r .question ≡ 0 → namePartsFrom (r .table) ≡ namesOf file
 
--- question 10 was put; where it is met, the first r words of ix are the table's index
+-- question 10 was put; where it is met, the first r words of ix are the table's index. Left free: the other words of ix, and all of them where
+-- the question is not met
 pub record Placed (T : Table) (tree : List Node) (ix : List ℕ) (r : ℕ) : Type 0 where
   pub unmet : r ≡ 0 → met10 T tree ≡ false
   pub met : (r ≡ 0 → ⊥) → met10 T tree ≡ true

@@ -79,7 +79,8 @@ pub fn prepare(file: &[u8], ws: &mut [u64]) -> Prepared
     }
 }
 
-// Question 10 to the records in these words, and the index of the table: how many words it has, or 0 where the question is not met. What ix holds past them is left free.
+// Question 10 to the records in these words, and the index of the table: how many words it has, or 0 where the question is not met. What ix holds
+// past them is left free.
 pub fn place<'a, 'b>(ws: &'a [u64], tree: &'a [u64], ix: &'b mut [u64]) -> usize
     requires { ⌜ AcceptedTable (tableIn (now ws)) × (5120 ≤ length (now tree)) × (24578 ≤ length (now ix)) ⌝ }
     ensures { λ r. ⌜ Placed (tableIn (now (ws .entry))) (recordsIn (now (tree .entry))) (now (ix .exit)) r ⌝ }

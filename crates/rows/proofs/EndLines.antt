@@ -11,7 +11,8 @@ use lib.Seq.{slice}
 use Rattle.lists.proofs.Bool.{clash}
 use Rattle.lists.proofs.Order.{le-or-lt}
 use Rattle.lines.specs.Bytes.{LF}
-use Rattle.lines.specs.Parts.{Piece, linesOf, linesFrom, lineAt, noLine}
+use Rattle.lines.specs.Parts.{Piece, linesOf, noLine}
+use Rattle.lines.specs.Cut.{linesFrom, lineAt}
 use Rattle.lines.specs.Cut.{Cut}
 use Rattle.lines.proofs.Lines.{from-last, from-more}
 use Rattle.grammar.specs.Name.{namesIn}
@@ -20,7 +21,7 @@ use Rattle.outline.specs.Sections.{Sections, sections, isEnd, startLine, rootLi
 use Rattle.outline.specs.Names.{among, numberOf, fact, job, declared}
 use Rattle.outline.specs.Questions.{met4}
 use Rattle.outline.specs.declared.Shape.{Shape}
-use Rattle.rows.specs.Answers.{Ready, FactsMean, EndsMean}
+use Rattle.rows.specs.Answers.{Ready, factWords, FactsMean, EndsMean}
 
 two : (ls : List Piece) → isEnd ls ≡ true → length ls ≡ 2
 unfolding isEnd
@@ -61,11 +62,11 @@ module _ {s : List ℕ} {h : Shape} {starts sizes : List ℕ} (u : Ready s h sta
 
 -- the two lines' fields together
 pub ends-means : (p : Sections) (l m : List ℕ) → l ≡ startLine p → m ≡ rootLine p → (o t r : Bool) (ws : List ℕ) (i k : ℕ)
-    → FactsMean (declared p fact) (namesIn (field l 1)) o ws → i ≡ numberOf (declared p job) (field m 1) → t ≡ among (declared p job) (field m 1)
+    → FactsMean factWords (declared p fact) (namesIn (field l 1)) o ws → i ≡ numberOf (declared p job) (field m 1) → t ≡ among (declared p job) (field m 1)
     → k ≡ getD (field m 2) 0 0 - 48 → r ≡ (o && t) → EndsMean p r ws i k
 unfolding startIn nameIn depthIn
 ends-means p l m e d o t r ws i k f g y z q =
-    let f₁ : FactsMean (declared p fact) (namesIn (field (startLine p) 1)) o ws = rw (← e) f in
+    let f₁ : FactsMean factWords (declared p fact) (namesIn (field (startLine p) 1)) o ws = rw (← e) f in
     record {
       told = q ∙ ap₂ _&&_ (f₁ .told) (y ∙ ap (λ (n : List ℕ). among (declared p job) (field n 1)) d);
       set = f₁ .set;

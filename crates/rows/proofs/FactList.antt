@@ -3,18 +3,17 @@
 use mathlib.Core.Path.{_≡_, refl, sym, ap, _∙_}
 use mathlib.Core.Bool.{Bool, true, false, not, _&&_, _||_}
 use mathlib.Core.List.{List, [], _∷_, map}
-use Prim.Native.Nat.{ℕ, zero, suc, _+_, _/_, _%_, _≤_, _<_, _*_}
+use Prim.Native.Nat.{ℕ, _+_, _/_, _≤_, _<_, _*_}
 use native.Mathlib.Omega.{arith}
 use lib.Dec.{eqb}
-use lib.ListN.{length, getD}
+use lib.ListN.{length, replicate, length-replicate}
 use lib.Seq.{slice}
 use borrow.Author.Tests.{lt-ltb, eq-eqb, ne-eqb, eqb-true}
 use Rattle.lists.specs.List.{all, has, upTo, noneTwice, filter}
 use Rattle.lists.proofs.Bool.{and-on, or-off, clash, and-l}
 use Rattle.lists.proofs.Member.{filter-same, has-not, in-map-out, all-out}
 use Rattle.lists.proofs.Order.{ne-lt}
-use Rattle.bitset.specs.Set.{bit, contains, inserted}
-use Rattle.bitset.proofs.Digits.{digit-none}
+use Rattle.bitset.specs.Set.{contains, inserted}
 use Rattle.bitset.proofs.Promises.{promises}
 use Rattle.lines.specs.Parts.{split}
 use Rattle.lines.specs.Cut.{Cut}
@@ -92,25 +91,21 @@ unfolding areFacts
 ok-facts fs ms = rw (ok-is fs [] ms, fresh-none (map (numberOf fs) ms), and-on)
 
 -- The set so far -------------------------------------------------------------------------------------------------------------
--- ws has the numbers of the names passed, of all the names `every`; ms are left
-pub record Adding (fs every ms : List Name) (ws : List ℕ) : Type 0 where
+-- ws, of n words, has the numbers of the names passed, of all the names `every`; ms are left
+pub record Adding (n : ℕ) (fs every ms : List Name) (ws : List ℕ) : Type 0 where
   pub done : List ℕ
   pub told : okFrom fs done ms ≡ areFacts fs every
   pub word : (k : ℕ) → contains ws k ≡ has done k
   pub sum : (k : ℕ) → (has done k || has (map (numberOf fs) ms) k) ≡ has (map (numberOf fs) every) k
-  pub wide : length ws ≡ 1
+  pub wide : length ws ≡ n
 
-no-member : (k : ℕ) → contains (0 ∷ []) k ≡ false
-no-member k = go (k / 64)
-  where
-    go : (i : ℕ) → eqb (bit (getD (0 ∷ []) i 0) (k % 64)) 1 ≡ false
-    go zero = rw (digit-none (k % 64))
-    go (suc i) = rw (digit-none (k % 64))
+no-member : (n k : ℕ) → contains (replicate n 0) k ≡ false
+no-member n k = promises .member (replicate n 0) k ∙ ap (λ (l : List ℕ). has l k) (promises .made n [] tt)
 
-pub adding-first : (fs ms : List Name) → Adding fs ms ms (0 ∷ [])
-adding-first fs ms = record { done = []; told = ok-facts fs ms; word = no-member; sum = λ k. refl; wide = refl }
+pub adding-first : (n : ℕ) (fs ms : List Name) → Adding n fs ms ms (replicate n 0)
+adding-first n fs ms = record { done = []; told = ok-facts fs ms; word = no-member n; sum = λ k. refl; wide = length-replicate n 0 }
 
-module _ {fs every ms : List Name} {m : Name} {ws : List ℕ} (u : Adding fs every (m ∷ ms) ws) where
+module _ {n : ℕ} {fs every ms : List Name} {m : Name} {ws : List ℕ} (u : Adding n fs every (m ∷ ms) ws) where
   pub adding-out : length fs ≤ numberOf fs m → false ≡ areFacts fs every
   unfolding okFrom
   adding-out h = let e : okFrom fs (u .done) (m ∷ ms) ≡ false = rw (among-out fs m h) in sym e ∙ u .told
@@ -119,7 +114,7 @@ module _ {fs every ms : List Name} {m : Name} {ws : List ℕ} (u : Adding fs eve
   unfolding okFrom
   adding-twice h t = let e : okFrom fs (u .done) (m ∷ ms) ≡ false = rw (among-in fs m h, sym (u .word (numberOf fs m)) ∙ t) in sym e ∙ u .told
 
-  pub adding-more : numberOf fs m < length fs → length fs ≤ 64 → contains ws (numberOf fs m) ≡ false → Adding fs every ms (inserted ws (numberOf fs m))
+  pub adding-more : numberOf fs m < length fs → length fs ≤ 64 * n → contains ws (numberOf fs m) ≡ false → Adding n fs every ms (inserted ws (numberOf fs m))
   adding-more h l t =
       let k = numberOf fs m in
       let z : k / 64 < length ws = omega (arith, u .wide) in
@@ -147,33 +142,33 @@ past-none fs every e k h = has-not (map (numberOf fs) every) k (λ i.
     let l = number-in fs (r .0) a in
     omega (arith, r .2))
 
-pub adding-done : {fs every : List Name} {ws : List ℕ} → length fs ≤ 64 → Adding fs every [] ws → FactsMean fs every true ws
+pub adding-done : {n : ℕ} {fs every : List Name} {ws : List ℕ} → length fs ≤ 64 * n → Adding n fs every [] ws → FactsMean n fs every true ws
 unfolding okFrom factsOf
-adding-done {fs} {every} {ws} l u =
+adding-done {n} {fs} {every} {ws} l u =
     let p = has (map (numberOf fs) every) in
-    let w : 64 * length ws ≡ 64 = omega (arith, u .wide) in
+    let w : 64 * length ws ≡ 64 * n = omega (arith, u .wide) in
     record {
       told = u .told;
       set = λ e. filter-same (contains ws) p (upTo (64 * length ws)) (λ k i. u .word k ∙ sym (or-off (has (u .done) k)) ∙ u .sum k)
-          ∙ ap (λ (n : ℕ). filter p (upTo n)) w ∙ filter-enough p 64 (length fs) l (past-none fs every e);
+          ∙ ap (λ (k : ℕ). filter p (upTo k)) w ∙ filter-enough p (64 * n) (length fs) l (past-none fs every e);
       wide = u .wide;
     }
 
-pub facts-off : {fs every : List Name} {ws : List ℕ} → length ws ≡ 1 → false ≡ areFacts fs every → FactsMean fs every false ws
+pub facts-off : {n : ℕ} {fs every : List Name} {ws : List ℕ} → length ws ≡ n → false ≡ areFacts fs every → FactsMean n fs every false ws
 facts-off w e = record { told = e; set = λ t. clash t (sym e); wide = w }
 
 -- The scan of the list from a up to b: i is where the names left begin -------------------------------------------------------
-pub record Listing (fs : List Name) (s : List ℕ) (a b i : ℕ) (ws : List ℕ) : Type 0 where
+pub record Listing (n : ℕ) (fs : List Name) (s : List ℕ) (a b i : ℕ) (ws : List ℕ) : Type 0 where
   pub low : a ≤ i
   pub high : i ≤ b
-  pub adding : Adding fs (split comma (slice a b s)) (split comma (slice i b s)) ws
+  pub adding : Adding n fs (split comma (slice a b s)) (split comma (slice i b s)) ws
 
-pub listing-first : (fs : List Name) (s : List ℕ) (a b : ℕ) → a ≤ b → Listing fs s a b a (0 ∷ [])
-listing-first fs s a b h = record { low = omega arith; high = h; adding = adding-first fs (split comma (slice a b s)) }
+pub listing-first : (n : ℕ) (fs : List Name) (s : List ℕ) (a b : ℕ) → a ≤ b → Listing n fs s a b a (replicate n 0)
+listing-first n fs s a b h = record { low = omega arith; high = h; adding = adding-first n fs (split comma (slice a b s)) }
 
-module _ {fs : List Name} {s : List ℕ} {a b i e k : ℕ} {ws : List ℕ} (u : Listing fs s a b i ws) (c : Cut comma s i b e) (h : b ≤ length s)
+module _ {n : ℕ} {fs : List Name} {s : List ℕ} {a b i e k : ℕ} {ws : List ℕ} (u : Listing n fs s a b i ws) (c : Cut comma s i b e) (h : b ≤ length s)
     (q : k ≡ numberOf fs (slice i e s)) where
-  here : (ps : List (List ℕ)) × Adding fs (split comma (slice a b s)) (slice i e s ∷ ps) ws
+  here : (ps : List (List ℕ)) × Adding n fs (split comma (slice a b s)) (slice i e s ∷ ps) ws
   here = (cut-first c h .0, rw (cut-first c h .1) at (u .adding))
 
   pub listing-out : length fs ≤ k → false ≡ areFacts fs (split comma (slice a b s))
@@ -183,15 +178,15 @@ module _ {fs : List Name} {s : List ℕ} {a b i e k : ℕ} {ws : List ℕ} (u : 
     pub listing-twice : contains ws k ≡ true → false ≡ areFacts fs (split comma (slice a b s))
     listing-twice t = adding-twice (here .1) (omega arith) (rw (← q) t)
 
-    module _ (m : length fs ≤ 64) (t : contains ws k ≡ false) where
-      pub listing-last : e ≡ b → FactsMean fs (split comma (slice a b s)) true (inserted ws k)
+    module _ (m : length fs ≤ 64 * n) (t : contains ws k ≡ false) where
+      pub listing-last : e ≡ b → FactsMean n fs (split comma (slice a b s)) true (inserted ws k)
       listing-last y =
-          let z : Adding fs (split comma (slice a b s)) (slice i e s ∷ []) ws = rw (y, ← cut-last c h y) (u .adding) in
+          let z : Adding n fs (split comma (slice a b s)) (slice i e s ∷ []) ws = rw (y, ← cut-last c h y) (u .adding) in
           rw q (adding-done m (adding-more z (omega arith) m (rw (← q) t)))
 
-      pub listing-more : (e ≡ b → ⊥) → Listing fs s a b (e + 1) (inserted ws k)
-      listing-more n =
-          let o : e < b = ne-lt (c .high) n in
+      pub listing-more : (e ≡ b → ⊥) → Listing n fs s a b (e + 1) (inserted ws k)
+      listing-more y =
+          let o : e < b = ne-lt (c .high) y in
           record {
             low = omega (arith, u .low, c .low);
             high = omega arith;
@@ -199,10 +194,10 @@ module _ {fs : List Name} {s : List ℕ} {a b i e k : ℕ} {ws : List ℕ} (u : 
           }
 
 -- a list of names is the lone hyphen or what commas part
-pub names-hyphen : (fs : List Name) (f : List ℕ) (r : Bool) → length fs ≤ 64 → r ≡ isHyphen f → r ≡ true → FactsMean fs (namesIn f) true (0 ∷ [])
+pub names-hyphen : (n : ℕ) (fs : List Name) (f : List ℕ) (r : Bool) → length fs ≤ 64 * n → r ≡ isHyphen f → r ≡ true → FactsMean n fs (namesIn f) true (replicate n 0)
 unfolding namesIn
-names-hyphen fs f r l e y = rw (← e, y) (adding-done l (adding-first fs []))
+names-hyphen n fs f r l e y = rw (← e, y) (adding-done l (adding-first n fs []))
 
-pub names-parts : {fs : List Name} {ok : Bool} {ws : List ℕ} (f : List ℕ) (r : Bool) → r ≡ isHyphen f → r ≡ false → FactsMean fs (split comma f) ok ws → FactsMean fs (namesIn f) ok ws
+pub names-parts : {n : ℕ} {fs : List Name} {ok : Bool} {ws : List ℕ} (f : List ℕ) (r : Bool) → r ≡ isHyphen f → r ≡ false → FactsMean n fs (split comma f) ok ws → FactsMean n fs (namesIn f) ok ws
 unfolding namesIn
 names-parts f r e n u = rw (← e, n) u

@@ -17,12 +17,12 @@ use Rattle.rows.specs.Row.{readStep}
 use Rattle.rows.specs.Answers.{FactsMean, StepMeans, BodyMeans, MethodMeans}
 
 -- field k of the line from a up to b, as a list of facts
-pub field-facts : {s : List ℕ} {a b k x y : ℕ} {fs : List Name} {ok : Bool} {ws : List ℕ} → At s a b k x y → FactsMean fs (namesIn (slice x y s)) ok ws
-    → FactsMean fs (namesIn (field (slice a b s) k)) ok ws
+pub field-facts : {n : ℕ} {s : List ℕ} {a b k x y : ℕ} {fs : List Name} {ok : Bool} {ws : List ℕ} → At s a b k x y → FactsMean n fs (namesIn (slice x y s)) ok ws
+    → FactsMean n fs (namesIn (field (slice a b s) k)) ok ws
 field-facts u f = rw (← u .bytes) f
 
-pub step-means : (fs : List Name) (l : List ℕ) (o₁ o₂ o₃ q r : Bool) (x y z : List ℕ) → FactsMean fs (namesIn (field l 2)) o₁ x → FactsMean fs (namesIn (field l 3)) o₂ y
-    → FactsMean fs (namesIn (field l 4)) o₃ z → q ≡ (o₂ && o₃) → r ≡ (o₁ && q) → StepMeans fs l r x y z
+pub step-means : {n : ℕ} (fs : List Name) (l : List ℕ) (o₁ o₂ o₃ q r : Bool) (x y z : List ℕ) → FactsMean n fs (namesIn (field l 2)) o₁ x
+    → FactsMean n fs (namesIn (field l 3)) o₂ y → FactsMean n fs (namesIn (field l 4)) o₃ z → q ≡ (o₂ && o₃) → r ≡ (o₁ && q) → StepMeans n fs l r x y z
 unfolding usesFacts readStep needsIn setsIn clearsIn
 step-means fs l o₁ o₂ o₃ q r x y z f g h e d =
     let a = areFacts fs (needsIn l) in

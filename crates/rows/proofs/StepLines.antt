@@ -17,7 +17,7 @@ use Rattle.lines.specs.Parts.{Piece, noLine}
 use Rattle.grammar.specs.Name.{Name}
 use Rattle.rows.specs.Uses.{usesFacts}
 use Rattle.rows.specs.Row.{readStep}
-use Rattle.rows.specs.Answers.{stepWith, StepMeans, StepsMean}
+use Rattle.rows.specs.Answers.{factWords, stepWith, StepMeans, StepsMean}
 
 -- the test p over lines, i of which are passed: with the answer so far, those left tell the same as all
 pub record Telling (p : Piece → Bool) (ls : List Piece) (ok : Bool) (i : ℕ) : Type 0 where
@@ -53,7 +53,7 @@ pub stepping-first : (fs : List Name) (ls : List Piece) {xs ys zs : List ℕ} �
 stepping-first fs ls a b c = record { telling = telling-first (uses fs) ls; wide = (a, b, c); at = λ j h. absurd (omega arith) }
 
 module _ {fs : List Name} {ls : List Piece} {ok : Bool} {xs ys zs : List ℕ} {i : ℕ} (u : Stepping fs ls ok xs ys zs i) (h : i < length ls) (g : i < 64) where
-  pub stepping-more : (l : Piece) (t r : Bool) (x y z : List ℕ) → l ≡ getD ls i noLine → StepMeans fs (l .bytes) t x y z → r ≡ (ok && t)
+  pub stepping-more : (l : Piece) (t r : Bool) (x y z : List ℕ) → l ≡ getD ls i noLine → StepMeans factWords fs (l .bytes) t x y z → r ≡ (ok && t)
       → Stepping fs ls r (set xs i (getD x 0 0)) (set ys i (getD y 0 0)) (set zs i (getD z 0 0)) (i + 1)
   stepping-more l t r x y z e m d = record {
     telling = telling-more t r (u .telling) h (m .told ∙ ap (uses fs) e) d;

@@ -6,7 +6,8 @@ use Prim.Native.Nat.{ℕ, _+_, _*_, _≤_, _<_}
 use native.Mathlib.Omega.{arith}
 use lib.ListN.{length, getD, take}
 use lib.Seq.{getD-take}
-use Rattle.lines.specs.Parts.{Piece, linesOf, linesFrom, noLine}
+use Rattle.lines.specs.Parts.{Piece, linesOf, noLine}
+use Rattle.lines.specs.Cut.{linesFrom}
 use Rattle.outline.specs.Sections.{sections}
 use Rattle.outline.specs.declared.Shape.{Shape}
 use Rattle.grammar.specs.Line.{bodyIn}

@@ -1,5 +1,4 @@
--- Inside the reader: what the answers of its functions mean. Contracts cite it; it follows from the definitions, and nothing here is
--- to be believed.
+-- Inside the reader, nothing to believe: what the answers of its functions mean. Contracts cite it; it follows from the definitions.
 -- Assumes nothing.
 use mathlib.Core.Path.{_≡_}
 use mathlib.Core.Bool.{Bool, true, _&&_}
@@ -31,23 +30,28 @@ pub record Ready (s : List ℕ) (h : Shape) (starts sizes : List ℕ) : Type 0 w
   pub bodies : all short ((sections (linesOf s)) .methods) ≡ true
   pub ends : met4 (sections (linesOf s)) ≡ true
 
--- a list of facts: is question 7 met, and if so the set
-pub record FactsMean (facts ns : List Name) (ok : Bool) (ws : List ℕ) : Type 0 where
+-- how many words a set of facts has, 64 facts a word
+abbrev pub factWords : ℕ
+factWords = 1
+
+-- a list of facts, in n words: is question 7 met, and if so the set. Left free: the words, where it is not met
+pub record FactsMean (n : ℕ) (facts ns : List Name) (ok : Bool) (ws : List ℕ) : Type 0 where
   pub told : ok ≡ areFacts facts ns
   pub set : areFacts facts ns ≡ true → members ws ≡ factsOf facts ns
-  pub wide : length ws ≡ 1
+  pub wide : length ws ≡ n
 
 -- the step that three sets of facts are
 abbrev pub stepWith : List ℕ → List ℕ → List ℕ → Step
 stepWith x y z = record { needs = members x; sets = members y; clears = members z }
 
--- an S line
-pub record StepMeans (facts : List Name) (l : List ℕ) (ok : Bool) (x y z : List ℕ) : Type 0 where
+-- an S line, n words a set. Left free: the words, where question 7 is not met
+pub record StepMeans (n : ℕ) (facts : List Name) (l : List ℕ) (ok : Bool) (x y z : List ℕ) : Type 0 where
   pub told : ok ≡ usesFacts facts l
   pub step : usesFacts facts l ≡ true → stepWith x y z ≡ readStep facts l
-  pub wide : (length x ≡ 1) × (length y ≡ 1) × (length z ≡ 1)
+  pub wide : (length x ≡ n) × (length y ≡ n) × (length z ≡ n)
 
--- some S lines, with a word for each set of each line
+-- some S lines, with a word for each set of each line. Left free: the words of a line that does not meet question 7, and those past the last
+-- line
 pub record StepsMean (facts : List Name) (ls : List Piece) (ok : Bool) (xs ys zs : List ℕ) : Type 0 where
   pub told : ok ≡ all (λ l. usesFacts facts (l .bytes)) ls
   pub at : (i : ℕ) → i < length ls → usesFacts facts ((getD ls i noLine) .bytes) ≡ true
@@ -71,7 +75,7 @@ pub record MethodMeans (jobs tasks : List Name) (l : List ℕ) (k : ℕ) (o o′
   pub size : n ≡ length (bodyIn l)
   pub contents : o′ ≡ stored o k (map (numberOf tasks) (bodyIn l))
 
--- some M lines, with eight places for each line's body
+-- some M lines, with eight places for each line's body. Left free: the places behind a body's last task, and all that stands past the last line
 pub record MethodsMean (jobs tasks : List Name) (ls : List Piece) (ok : Bool) (owners sizes bodies : List ℕ) : Type 0 where
   pub told : ok ≡ all (λ l. usesTasks jobs tasks (l .bytes)) ls
   pub owner : (i : ℕ) → i < length ls → getD owners i 0 ≡ numberOf jobs (nameIn ((getD ls i noLine) .bytes))
@@ -79,7 +83,7 @@ pub record MethodsMean (jobs tasks : List Name) (ls : List Piece) (ok : Bool) (o
   pub task : (i j : ℕ) → i < length ls → j < length (bodyIn ((getD ls i noLine) .bytes))
       → getD bodies (i * 8 + j) 0 ≡ numberOf tasks (getD (bodyIn ((getD ls i noLine) .bytes)) j [])
 
--- the I line and the R line
+-- the I line and the R line. Left free: the words of the start, where question 7 is not met
 pub record EndsMean (p : Sections) (ok : Bool) (ws : List ℕ) (j k : ℕ) : Type 0 where
   pub told : ok ≡ (areFacts (declared p fact) (startIn (startLine p)) && among (declared p job) (nameIn (rootLine p)))
   pub set : areFacts (declared p fact) (startIn (startLine p)) ≡ true → members ws ≡ factsOf (declared p fact) (startIn (startLine p))

@@ -11,7 +11,7 @@ ghost use Rattle.grammar.specs.Name.{namesIn};
 ghost use Rattle.grammar.specs.Line.{bodyIn};
 ghost use Rattle.outline.specs.Sections.{sections};
 ghost use Rattle.outline.specs.Names.{fact, job, task, declared};
-ghost use Rattle.rows.specs.Answers.{Ready, FactsMean, StepMeans, StepsMean, BodyMeans, MethodMeans, MethodsMean, EndsMean};
+ghost use Rattle.rows.specs.Answers.{Ready, factWords, FactsMean, StepMeans, StepsMean, BodyMeans, MethodMeans, MethodsMean, EndsMean};
 use grammar::field_at;
 use grammar::is_hyphen;
 use lines::cut;
@@ -46,7 +46,7 @@ fn fact_set<'a>(
     b: usize,
 ) -> Facts
     requires { ⌜ Ready (now s) h (now start) (now size) × (a ≤ b) × (b ≤ length (now s)) ⌝ }
-    ensures { λ r. ⌜ FactsMean (declared (sections (linesOf (now (s .entry)))) fact) (namesIn (slice a b (now (s .entry)))) (r .ok) (r .set) ⌝ }
+    ensures { λ r. ⌜ FactsMean factWords (declared (sections (linesOf (now (s .entry)))) fact) (namesIn (slice a b (now (s .entry)))) (r .ok) (r .set) ⌝ }
 {
     let mut w: FactSet = [0; 1];
     if is_hyphen(s, a, b) {
@@ -88,7 +88,8 @@ fn step_sets<'a>(
     b: usize,
 ) -> StepSets
     requires { ⌜ Ready (now s) h (now start) (now size) × (a ≤ b) × (b ≤ length (now s)) ⌝ }
-    ensures { λ r. ⌜ StepMeans (declared (sections (linesOf (now (s .entry)))) fact) (slice a b (now (s .entry))) (r .ok) (r .needs) (r .sets) (r .clears) ⌝ }
+    ensures { λ r. ⌜ StepMeans factWords (declared (sections (linesOf (now (s .entry)))) fact) (slice a b (now (s .entry))) (r .ok) (r .needs) (r .sets)
+        (r .clears) ⌝ }
 {
     let f = field_at(s, a, b, 2);
     let x = fact_set(s, start, size, h, f.from, f.to);
@@ -117,7 +118,8 @@ pub struct Steps {
 
 pub fn read_steps<'a>(s: &[u8], start: &'a Places, size: &'a Places, h: Shape) -> Steps
     requires { ⌜ Ready (now s) h (now start) (now size) ⌝ }
-    ensures { λ r. ⌜ StepsMean (declared (sections (linesOf (now (s .entry)))) fact) ((sections (linesOf (now (s .entry)))) .steps) (r .ok) (r .needs) (r .sets) (r .clears) ⌝ }
+    ensures { λ r. ⌜ StepsMean (declared (sections (linesOf (now (s .entry)))) fact) ((sections (linesOf (now (s .entry)))) .steps) (r .ok) (r .needs)
+        (r .sets) (r .clears) ⌝ }
 {
     let mut needs: [u64; 64] = [0; 64];
     let mut sets: [u64; 64] = [0; 64];
@@ -160,8 +162,10 @@ fn read_body<'a>(
     bodies: &mut [u8],
     at: usize,
 ) -> Body
-    requires { ⌜ Ready (now s) h (now start) (now size) × (a ≤ b) × (b ≤ length (now s)) × (at + length (namesIn (slice a b (now s))) ≤ length (now bodies)) ⌝ }
-    ensures { λ r. ⌜ BodyMeans (declared (sections (linesOf (now (s .entry)))) task) (namesIn (slice a b (now (s .entry)))) at (now (bodies .entry)) (now (bodies .exit)) (r .ok) (r .size) ⌝ }
+    requires { ⌜ Ready (now s) h (now start) (now size) × (a ≤ b) × (b ≤ length (now s))
+        × (at + length (namesIn (slice a b (now s))) ≤ length (now bodies)) ⌝ }
+    ensures { λ r. ⌜ BodyMeans (declared (sections (linesOf (now (s .entry)))) task) (namesIn (slice a b (now (s .entry)))) at (now (bodies .entry))
+        (now (bodies .exit)) (r .ok) (r .size) ⌝ }
 {
     if is_hyphen(s, a, b) {
         return Body { ok: true, size: 0 };
@@ -201,7 +205,8 @@ fn read_method<'a>(
     at: usize,
 ) -> Method
     requires { ⌜ Ready (now s) h (now start) (now size) × (a ≤ b) × (b ≤ length (now s)) × (at + length (bodyIn (slice a b (now s))) ≤ length (now bodies)) ⌝ }
-    ensures { λ r. ⌜ MethodMeans (declared (sections (linesOf (now (s .entry)))) job) (declared (sections (linesOf (now (s .entry)))) task) (slice a b (now (s .entry))) at (now (bodies .entry)) (now (bodies .exit)) (r .ok) (r .owner) (r .size) ⌝ }
+    ensures { λ r. ⌜ MethodMeans (declared (sections (linesOf (now (s .entry)))) job) (declared (sections (linesOf (now (s .entry)))) task)
+        (slice a b (now (s .entry))) at (now (bodies .entry)) (now (bodies .exit)) (r .ok) (r .owner) (r .size) ⌝ }
 {
     let f = field_at(s, a, b, 1);
     let j = look_up(
@@ -234,7 +239,8 @@ pub struct Methods {
 
 pub fn read_methods<'a>(s: &[u8], start: &'a Places, size: &'a Places, h: Shape) -> Methods
     requires { ⌜ Ready (now s) h (now start) (now size) ⌝ }
-    ensures { λ r. ⌜ MethodsMean (declared (sections (linesOf (now (s .entry)))) job) (declared (sections (linesOf (now (s .entry)))) task) ((sections (linesOf (now (s .entry)))) .methods) (r .ok) (r .owners) (r .sizes) (r .bodies) ⌝ }
+    ensures { λ r. ⌜ MethodsMean (declared (sections (linesOf (now (s .entry)))) job) (declared (sections (linesOf (now (s .entry)))) task)
+        ((sections (linesOf (now (s .entry)))) .methods) (r .ok) (r .owners) (r .sizes) (r .bodies) ⌝ }
 {
     let mut owners: [u8; 128] = [0; 128];
     let mut sizes: [u8; 128] = [0; 128];

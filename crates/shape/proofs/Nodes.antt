@@ -17,8 +17,7 @@ use Rattle.planning.proofs.Record.{LabelIn, records-rising}
 use Rattle.places.specs.Flat.{Node, inner, ownAll, methodsAt}
 use Rattle.places.specs.ClausePlace.{childAt, width, tasksN, methodAt, methodVar}
 use Rattle.places.specs.Lookup.{recordAt, firstVar, noRecord, slotsIn}
-use Rattle.places.proofs.Literals.{every-at}
-use Rattle.places.proofs.Lookup.{node-at, nodes-length, slots-length}
+use Rattle.places.proofs.Lookup.{every-at, node-at, nodes-length, slots-length}
 use Rattle.places.proofs.Records.{vars-records, ownAll-append}
 use Rattle.places.proofs.Small.{Sizes, sizes-at, records-children}
 use Rattle.index.specs.Index.{source, indexOf, nodesIn, slotsIn as slotsWord, nodeWordIn, meaningIn, Few, ChildAt}

@@ -1,4 +1,4 @@
--- Inside the encoding: a table and its index. Nothing to believe.
+-- Inside the encoding, nothing to believe: a table and its index.
 -- Assumes nothing.
 use mathlib.Core.Path.{_≡_}
 use mathlib.Core.List.{List}

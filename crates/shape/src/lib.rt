@@ -7,7 +7,8 @@ ghost use lib.ListN.{length, getD};
 ghost use Rattle.bitset.specs.Set.{members};
 ghost use Rattle.planning.specs.Accepted.{Accepted};
 ghost use Rattle.sheet.specs.Sheet.{tableIn};
-ghost use Rattle.places.specs.ClausePlace.{childAt, width as childWidth, tasksN, methodAt, methodVar, namedAt, slotAt, noGroup, nodeGroups, slotGroups, effectFacts, groupAt, nodesIn, groupsIn, rowLen};
+ghost use Rattle.places.specs.ClausePlace.{childAt, width as childWidth, tasksN, methodAt, methodVar, namedAt, slotAt, noGroup, nodeGroups};
+ghost use Rattle.places.specs.ClausePlace.{slotGroups, effectFacts, groupAt, nodesIn, groupsIn, rowLen};
 ghost use Rattle.index.specs.Index.{source, SlotAt};
 ghost use Rattle.shape.specs.Shape.{node, Indexed, InNode, InSlot, InGroup};
 use table::FactSet;
@@ -119,8 +120,10 @@ fn node_ys(ws: &[u64], ix: &[u64], n: usize, g: usize) -> usize
 
 // (e) of method x at child y.
 pub fn body_len(ws: &[u64], ix: &[u64], n: usize, x: usize, y: usize) -> usize
-    requires { ⌜ InNode (tableIn (now ws)) (now ix) n × (x < length ((node (tableIn (now ws)) n) .methods)) × (y < length ((node (tableIn (now ws)) n) .children)) ⌝ }
-    ensures { λ r. ⌜ r ≡ cond (namedAt (tableIn (now (ws .entry))) (node (tableIn (now (ws .entry))) n) x y) 1 (childWidth (childAt (node (tableIn (now (ws .entry))) n) y)) ⌝ }
+    requires { ⌜ InNode (tableIn (now ws)) (now ix) n × (x < length ((node (tableIn (now ws)) n) .methods))
+        × (y < length ((node (tableIn (now ws)) n) .children)) ⌝ }
+    ensures { λ r. ⌜ r ≡ cond (namedAt (tableIn (now (ws .entry))) (node (tableIn (now (ws .entry))) n) x y) 1
+        (childWidth (childAt (node (tableIn (now (ws .entry))) n) y)) ⌝ }
 {
     if is_named(ws, ix, n, x, y) {
         return 1;
@@ -139,7 +142,8 @@ fn pass_len(ws: &[u64], ix: &[u64], n: usize, y: usize) -> usize
 }
 
 fn node_len(ws: &[u64], ix: &[u64], n: usize, g: usize, x: usize, y: usize) -> usize
-    requires { ⌜ InNode (tableIn (now ws)) (now ix) n × (g < 7) × (x < (getD (nodeGroups (tableIn (now ws)) n (node (tableIn (now ws)) n)) g noGroup) .xs) × (y < (getD (nodeGroups (tableIn (now ws)) n (node (tableIn (now ws)) n)) g noGroup) .ys) ⌝ }
+    requires { ⌜ InNode (tableIn (now ws)) (now ix) n × (g < 7) × (x < (getD (nodeGroups (tableIn (now ws)) n (node (tableIn (now ws)) n)) g noGroup) .xs)
+        × (y < (getD (nodeGroups (tableIn (now ws)) n (node (tableIn (now ws)) n)) g noGroup) .ys) ⌝ }
     ensures { λ r. ⌜ r ≡ (getD (nodeGroups (tableIn (now (ws .entry))) n (node (tableIn (now (ws .entry))) n)) g noGroup) .len x y ⌝ }
 {
     match g {
@@ -232,7 +236,8 @@ fn slot_ys(ws: &[u64], n: usize, g: usize) -> usize
 }
 
 fn slot_len(ws: &[u64], ix: &[u64], n: usize, g: usize, x: usize, y: usize) -> usize
-    requires { ⌜ InSlot (tableIn (now ws)) (now ix) n × (g < 2) × (x < (groupAt (source (tableIn (now ws))) 3 n g) .xs) × (y < (groupAt (source (tableIn (now ws))) 3 n g) .ys) ⌝ }
+    requires { ⌜ InSlot (tableIn (now ws)) (now ix) n × (g < 2) × (x < (groupAt (source (tableIn (now ws))) 3 n g) .xs)
+        × (y < (groupAt (source (tableIn (now ws))) 3 n g) .ys) ⌝ }
     ensures { λ r. ⌜ r ≡ (groupAt (source (tableIn (now (ws .entry)))) 3 n g) .len x y ⌝ }
 {
     if g == 0 {
@@ -297,7 +302,8 @@ pub fn ys_in(ws: &[u64], ix: &[u64], r: usize, n: usize, g: usize) -> usize
 
 // How many clauses row (x, y) has, where there is such a row.
 pub fn len_in(ws: &[u64], ix: &[u64], r: usize, n: usize, g: usize, x: usize, y: usize) -> usize
-    requires { ⌜ InGroup (tableIn (now ws)) (now ix) r n g × (x < (groupAt (source (tableIn (now ws))) r n g) .xs) × (y < (groupAt (source (tableIn (now ws))) r n g) .ys) ⌝ }
+    requires { ⌜ InGroup (tableIn (now ws)) (now ix) r n g × (x < (groupAt (source (tableIn (now ws))) r n g) .xs)
+        × (y < (groupAt (source (tableIn (now ws))) r n g) .ys) ⌝ }
     ensures { λ k. ⌜ k ≡ (groupAt (source (tableIn (now (ws .entry)))) r n g) .len x y ⌝ }
 {
     if r == 1 {

@@ -1,6 +1,5 @@
--- Inside the encoding: what the words of a sheet mean, the table of `planning` that they hold. It is shut to other crates, which know
--- it through the contracts of the calls.
--- Assumes nothing.
+-- Inside the encoding, nothing to believe: what the words of a sheet mean, the table of `planning` that they hold. It is shut to other crates,
+-- which know it through the contracts of the calls. Assumes nothing.
 use mathlib.Core.Bool.{cond}
 use mathlib.Core.List.{List, [], _∷_, map}
 use Prim.Native.Nat.{ℕ, _+_, _*_, _/_, _%_}
@@ -33,6 +32,8 @@ methodIn ws m = record {
   body = map (λ j. taskIn (getD ws (201 + 10 * m + j) 0)) (upTo (getD ws (200 + 10 * m) 0));
 }
 
+-- Left free by what fills a sheet: words that no look-up reads, which are those of steps and methods past the last, of places behind a body's
+-- last task, and all past the sheet
 unfoldable pub tableIn : List ℕ → Table
 tableIn ws = record {
   facts = getD ws 0 0;

@@ -9,9 +9,9 @@ use native.Mathlib.Omega.{arith}
 use native.Mathlib.Decide.{ℕ-discrete}
 use lib.ListN.{length, getD, length-append}
 use lib.Seq.{ext-getD}
-use lib.Dec.{eqb, leb}
+use lib.Dec.{eqb}
 use Rattle.lists.specs.List.{any, Every}
-use Rattle.lists.proofs.Bool.{and-in, or-off, eqb-same, eqb-other, leb-in}
+use Rattle.lists.proofs.Bool.{or-off, eqb-same, eqb-other}
 use Rattle.lists.proofs.Every.{every-imp, every-out, every-append, every-concatMap, length-concatMap-le}
 use Rattle.lists.proofs.Place.{getD-map-from}
 use Rattle.planning.specs.Clause.{Lit, pos, neg, variableOf, literal}
@@ -20,9 +20,10 @@ use Rattle.planning.proofs.Text.Numeral.{decimal-length}
 use Rattle.lines.specs.Bytes.{LF}
 use Rattle.lines.specs.Parts.{ended}
 use Rattle.solver.specs.Number.{oneMore}
-use Rattle.solver.specs.Line.{satisfiable, Line, says, sets, spelled, lineOf, FiveDigits}
+use Rattle.solver.specs.Line.{satisfiable, Line, says, sets, lineOf}
+use Rattle.solver.specs.Exact.{spelled, FiveDigits}
 use Rattle.solver.specs.File.{isZero, lastOrMore, beforeZero, answer, fitted, answerIn, answerOf}
-use Rattle.solver.specs.Questions.{isSome, saysSatisfiable, numbersSaid, makesTrue, times, onceEach, truths, valuesOf, met12, met13, met14}
+use Rattle.solver.specs.Questions.{numbersSaid, makesTrue, times, onceEach, truths, valuesOf, met14}
 use Rattle.solver.proofs.Once.{InRange, once-in, truths-length}
 use Rattle.solver.proofs.Values.{true-other}
 use Rattle.solver.proofs.Parts.{Without, without-of, joined, lines-exact}
@@ -154,12 +155,6 @@ module _ (vs : List Bool) (h : length vs ≤ 9999) where
 
   pub file-says : answerOf (answerFile vs) ≡ some (record { word = satisfiable; numbers = literals 1 vs })
   file-says = numbers-say ls (literals-range 1 99999 vs (omega arith) (omega arith))
-
-  pub file-met12 : met12 (answerFile vs) ≡ true
-  file-met12 = and-in (leb (length (answerFile vs)) 65536) (isSome (answerOf (answerFile vs))) (leb-in (length (answerFile vs)) 65536 file-length) (ap isSome file-says)
-
-  pub file-met13 : met13 (answerFile vs) ≡ true
-  file-met13 = ap saysSatisfiable file-says
 
   pub file-met14 : met14 (length vs) (answerFile vs) ≡ true
   file-met14 =

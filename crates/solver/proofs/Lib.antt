@@ -15,5 +15,6 @@ pub mod Parts
 pub mod Numeral
 pub mod Number
 pub mod Line
+pub mod Exact
 -- every list of values has a formed answer
 pub mod File

@@ -13,7 +13,8 @@ use Rattle.planning.specs.Clause.{Lit}
 use Rattle.lines.specs.Bytes.{sameBytes}
 use Rattle.lines.specs.Parts.{split}
 use Rattle.solver.specs.Number.{numbersOf}
-use Rattle.solver.specs.Line.{Word, satisfiable, unsatisfiable, unknown, comment, says, sets, unformed, SATISFIABLE, UNSATISFIABLE, UNKNOWN, numbersLine, lineOf, spelled, CommentLine, NumbersLine, LineExact}
+use Rattle.solver.specs.Line.{Word, satisfiable, unsatisfiable, unknown, comment, says, sets, unformed, SATISFIABLE, UNSATISFIABLE, UNKNOWN, numbersLine, lineOf}
+use Rattle.solver.specs.Exact.{spelled, CommentLine, NumbersLine, LineExact}
 use Rattle.solver.proofs.Parts.{split-out, split-some}
 use Rattle.solver.proofs.Number.{numbers-out, texts-split, numbers-in}
 

@@ -18,7 +18,7 @@ use Rattle.planning.specs.Promises.{Digit}
 use Rattle.planning.proofs.Text.Numeral.{numeral as numeral-laws}
 use Rattle.lines.specs.Parts.{split}
 use Rattle.solver.specs.Number.{numeral, positive, negative, numberOf, oneMore, numbersOf}
-use Rattle.solver.specs.Line.{FiveDigits}
+use Rattle.solver.specs.Exact.{FiveDigits}
 use Rattle.solver.proofs.Parts.{Without, led, split-cons, split-one}
 use Rattle.solver.proofs.Numeral.{numeral-exact}
 

@@ -1,19 +1,18 @@
 -- The values that an answer gives: a variable is true where it stands without a minus, false where it stands with one.
 -- By recursion on the numbers.
 use mathlib.Core.Path.{_≡_, refl, sym, ap, _∙_, subst}
-use mathlib.Core.Bool.{Bool, true, false}
+use mathlib.Core.Bool.{true, false}
 use mathlib.Core.List.{List, [], _∷_}
 use mathlib.Core.Logic.{inl, inr, _↔_}
 use Prim.Native.Nat.{ℕ, zero, suc, _+_, _≤_}
 use native.Mathlib.Omega.{arith}
 use native.Mathlib.Decide.{ℕ-discrete}
-use lib.ListN.{getD, List·getD-map}
 use Rattle.lists.specs.List.{any, _∈_}
 use Rattle.lists.proofs.Bool.{clash, eqb-sound, eqb-same, eqb-other}
 use Rattle.lists.proofs.Member.{any-out, any-in}
 use Rattle.lists.proofs.Place.{getD-map-from}
 use Rattle.planning.specs.Clause.{Lit, pos, neg, variableOf}
-use Rattle.planning.specs.Model.{value, bit, bits}
+use Rattle.planning.specs.Model.{value}
 use Rattle.solver.specs.Questions.{makesTrue, times, truths}
 use Rattle.solver.proofs.Once.{times-own, times-other}
 
@@ -85,7 +84,3 @@ false-is k (l ∷ ls) h = go (ℕ-discrete k (variableOf l)) (λ g. false-is k l
 pub value-of : (n k : ℕ) (ls : List Lit) → 1 ≤ k → k ≤ n → value (truths n ls) k ≡ any (makesTrue k) ls
 value-of n zero ls p q = absurd (omega arith)
 value-of n (suc k) ls p q = let z : 1 + k ≡ suc k = omega arith in getD-map-from (λ k. any (makesTrue k) ls) 1 n k false q ∙ ap (λ (j : ℕ). any (makesTrue j) ls) z
-
--- "1 if true, 0 if false"
-pub value-at : (vs : List Bool) (i : ℕ) → getD (bits vs) i 0 ≡ bit (value vs (suc i))
-value-at vs i = List·getD-map bit vs i false

@@ -8,5 +8,7 @@ pub mod Line
 pub mod File
 -- questions 12 to 14, and the values
 pub mod Questions
+-- the statements: lines and values, put the other way round
+pub mod Exact
 -- inside the reader: an answer read from left to right
 pub mod Scan

@@ -1,16 +1,11 @@
 -- The lines of an answer file: which kinds there are, and what each says. 99, 115 and 118 are c, s and v; 32 is a space.
 -- Assumes nothing.
-use mathlib.Core.Path.{_≡_}
 use mathlib.Core.Bool.{cond}
 use mathlib.Core.List.{List, [], _∷_}
-use mathlib.Core.Logic.{_⊎_, _↔_}
 use mathlib.Core.Option.{Option, none, some}
-use Prim.Native.Nat.{ℕ, _≤_}
-use lib.ListN.{length}
+use Prim.Native.Nat.{ℕ}
 use lib.Dec.{eqb}
-use Rattle.lists.specs.List.{Every, concatMap}
-use Rattle.planning.specs.Clause.{Lit, pos, neg}
-use Rattle.planning.specs.Text.{litText}
+use Rattle.planning.specs.Clause.{Lit}
 use Rattle.lines.specs.Bytes.{sameBytes}
 use Rattle.lines.specs.Parts.{split}
 use Rattle.solver.specs.Number.{numbersOf}
@@ -60,30 +55,3 @@ lineOf (b ∷ bs) =
     cond (eqb b 99) (afterLetter comment (λ more. comment) bs)
     (cond (eqb b 115) (afterLetter unformed wordLine bs)
     (cond (eqb b 118) (afterLetter unformed (λ more. numbersLine (numbersOf (split 32 more))) bs) unformed))
-
--- The same, put the other way round: the bytes of each kind --------------------------------------------------------------------
-abbrev pub spelled : Word → List ℕ
-spelled satisfiable = SATISFIABLE
-spelled unsatisfiable = UNSATISFIABLE
-spelled unknown = UNKNOWN
-
--- "A `c` line is `c` alone, or `c`, a space and anything."
-abbrev pub CommentLine : List ℕ → Type 0
-CommentLine l = (l ≡ 99 ∷ []) ⊎ ((more : List ℕ) × (l ≡ 99 ∷ 32 ∷ more))
-
--- "no leading zeros, at most five digits, a minus allowed except on 0"
-abbrev pub FiveDigits : Lit → Type 0
-FiveDigits (pos n) = n ≤ 99999
-FiveDigits (neg n) = (1 ≤ n) × (n ≤ 99999)
-
--- "A `v` line is `v` and one or more numbers, one space before each"
-pub record NumbersLine (l : List ℕ) (ks : List Lit) : Type 0 where
-  pub some-number : 1 ≤ length ks
-  pub bytes : l ≡ 118 ∷ concatMap (λ k. 32 ∷ litText k) ks
-  pub written : Every FiveDigits ks
-
--- the kinds of line are told apart by these
-pub record LineExact (l : List ℕ) : Type 0 where
-  pub comments : (lineOf l ≡ comment) ↔ CommentLine l
-  pub words : (w : Word) → (lineOf l ≡ says w) ↔ (l ≡ 115 ∷ 32 ∷ spelled w)
-  pub numbers : (ks : List Lit) → (lineOf l ≡ sets ks) ↔ NumbersLine l ks

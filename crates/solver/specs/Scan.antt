@@ -1,5 +1,5 @@
--- Inside the reader: an answer read from left to right, with a cell for each variable. Nothing to believe: it is the meaning of the file.
--- Assumes nothing.
+-- Inside the reader of an answer, nothing to believe: an answer read from left to right, with a cell for each variable. It is the meaning of
+-- the file. Assumes nothing.
 use mathlib.Core.Path.{_≡_}
 use mathlib.Core.Bool.{Bool, true, false, not, _&&_, _||_, cond}
 use mathlib.Core.List.{List, [], _∷_}

@@ -8,7 +8,7 @@ use mathlib.Core.Option.{Option, none, some}
 use Prim.Native.Nat.{ℕ, zero, suc, _+_, _-_, _*_, _≤_, _<_}
 use native.Mathlib.Omega.{arith}
 use lib.Dec.{ltb}
-use lib.ListN.{length, getD, getElem?, take, drop, length-map, length-drop, List·getD-eq-default, drop-of-length-le}
+use lib.ListN.{length, getD, getElem?, take, drop, length-map, length-drop, replicate, List·getD-eq-default, drop-of-length-le}
 use lib.Seq.{take-all, take-nil, drop-length}
 use borrow.Author.Tests.{lt-ltb, le-ltb}
 use Rattle.lists.specs.List.{from, upTo}
@@ -16,9 +16,11 @@ use Rattle.lists.proofs.Number.{length-from}
 use Rattle.lists.proofs.Order.{le-or-lt}
 use Rattle.lists.proofs.Place.{getD-map-from, getD-map-past, elem-map-from}
 use Rattle.bitset.specs.Set.{members}
+use Rattle.bitset.proofs.Promises.{promises}
 use Rattle.planning.specs.Table.{Step, Method, noStep, noMethod, stepOf, jobOf, bodyOf, Task as PlanningTask}
 use Rattle.lines.specs.Part.{Part, bytesAt}
-use Rattle.table.specs.Layout.{taskAt, stepFrom, methodFrom, tableFrom, partWith, namePartsFrom, noPart, taskFrom, taskWith}
+use Rattle.table.specs.Layout.{taskAt, stepFrom, methodFrom, tableFrom, partWith, namePartsFrom, noPart, taskFrom}
+use Rattle.table.specs.Code.{taskWith}
 use Rattle.table.specs.declared.Table.{Table}
 use Rattle.table.specs.declared.Task.the-variants.{Step as StepTask, Job as JobTask, Nothing}
 
@@ -54,8 +56,8 @@ module _ (a : List ℕ) (n m j : ℕ) where
   body-there h k e = e ∙ rw (lt-ltb m n h, lt-ltb j 256 k)
 
 -- Steps ----------------------------------------------------------------------------------------------------------------------
-empty-set : members (0 ∷ []) ≡ []
-empty-set = refl
+empty-set : (n : ℕ) → members (replicate n 0) ≡ []
+empty-set n = promises .made n [] tt
 
 module _ (t : Table) where
   pub count-steps : t .steps ≡ length ((tableFrom t) .steps)
@@ -79,7 +81,7 @@ module _ (t : Table) where
     pub step-set : (g : Step → List ℕ) (ws : List ℕ) → g noStep ≡ [] → g (stepFrom t i) ≡ members (getD ws i 0 ∷ [])
         → (r : List ℕ) → r ≡ cond (ltb i (t .steps)) (getD ws i 0) 0 ∷ [] → members r ≡ g (stepOf (tableFrom t) i)
     step-set g ws e d r q = ⊎-elim
-        (λ h. ap members (q ∙ none-there h) ∙ empty-set ∙ sym (ap g (step-past h) ∙ e))
+        (λ h. ap members (q ∙ none-there h) ∙ empty-set 1 ∙ sym (ap g (step-past h) ∙ e))
         (λ h. ap members (q ∙ there h) ∙ sym d ∙ ap g (step-in h))
         (le-or-lt (t .steps) i)
       where

@@ -5,40 +5,77 @@ use mathlib.Core.List.{List}
 use Prim.Native.Nat.{ℕ}
 use Rattle.outline.specs.Sections.{sections}
 use Rattle.lines.specs.Parts.{linesOf}
-use Rattle.lists.specs.Text.{bytes}
-use Rattle.planning.proofs.Computed.Marked.{marked}
-use Rattle.table.specs.Examples.{MarkedFiles, Edges, factsFile}
+use Rattle.planning.specs.Marked.{shown, deeper, emptyBody, withoutMethods, serveAndLift, serveAndLiftDeeper, twice, needsOpen, needsOpenAtStart, setsAndClears}
+use Rattle.table.specs.Examples.{ExampleReads, MarkedFiles, Edges, fileWith, factsFile, threeServesFile}
+use Rattle.table.specs.Examples.{shownFile, deeperFile, emptyFile, noneFile, bothFile, bothDeeperFile, twiceFile, needsFile, needsStartFile, clearsFile}
 use Rattle.table.specs.Reading.{NameParts, namePartsOf, reading}
 
 -- where the names of a file stand, by its sections
 abbrev partsIn : List ℕ → NameParts
 partsIn file = namePartsOf (sections (linesOf file))
 
-pub marked-files : MarkedFiles
+pub shown-reads : ExampleReads shownFile shown
 unfolding reading namePartsOf
-marked-files = record {
-  shown-file = record { names = partsIn (bytes "F\topen\nS\tlift\t-\topen\t-\nT\tserve\nM\tserve\tlift\nI\t-\nR\tserve\t1\n"); read = refl; fact-names = refl; step-names = refl; job-names = refl };
-  deeper-file = record { names = partsIn (bytes "F\topen\nS\tlift\t-\topen\t-\nT\tserve\nM\tserve\tlift\nI\t-\nR\tserve\t2\n"); read = refl; fact-names = refl; step-names = refl; job-names = refl };
-  empty-file = record { names = partsIn (bytes "F\topen\nS\tlift\t-\topen\t-\nT\tserve\nM\tserve\t-\nI\t-\nR\tserve\t1\n"); read = refl; fact-names = refl; step-names = refl; job-names = refl };
-  none-file = record { names = partsIn (bytes "F\topen\nS\tlift\t-\topen\t-\nT\tserve\nI\t-\nR\tserve\t1\n"); read = refl; fact-names = refl; step-names = refl; job-names = refl };
-  both-file = record { names = partsIn (bytes "F\topen\nS\tlift\t-\topen\t-\nT\tserve\nM\tserve\tserve\nM\tserve\tlift\nI\t-\nR\tserve\t1\n"); read = refl; fact-names = refl; step-names = refl; job-names = refl };
-  both-deeper-file = record { names = partsIn (bytes "F\topen\nS\tlift\t-\topen\t-\nT\tserve\nM\tserve\tserve\nM\tserve\tlift\nI\t-\nR\tserve\t2\n"); read = refl; fact-names = refl; step-names = refl; job-names = refl };
-  twice-file = record { names = partsIn (bytes "F\topen\nS\tlift\t-\topen\t-\nT\tserve\nM\tserve\tlift\nM\tserve\tlift\nI\t-\nR\tserve\t1\n"); read = refl; fact-names = refl; step-names = refl; job-names = refl };
-  needs-file = record { names = partsIn (bytes "F\topen\nS\tlift\topen\topen\t-\nT\tserve\nM\tserve\tlift\nI\t-\nR\tserve\t1\n"); read = refl; fact-names = refl; step-names = refl; job-names = refl };
-  needs-start-file = record { names = partsIn (bytes "F\topen\nS\tlift\topen\topen\t-\nT\tserve\nM\tserve\tlift\nI\topen\nR\tserve\t1\n"); read = refl; fact-names = refl; step-names = refl; job-names = refl };
-  clears-file = record { names = partsIn (bytes "F\topen\nS\tlift\t-\topen\topen\nT\tserve\nM\tserve\tlift\nI\t-\nR\tserve\t1\n"); read = refl; fact-names = refl; step-names = refl; job-names = refl };
-  marked = marked;
-}
+shown-reads = record { names = partsIn shownFile; read = refl; fact-names = refl; step-names = refl; job-names = refl }
+
+pub deeper-reads : ExampleReads deeperFile deeper
+unfolding reading namePartsOf
+deeper-reads = record { names = partsIn deeperFile; read = refl; fact-names = refl; step-names = refl; job-names = refl }
+
+pub empty-reads : ExampleReads emptyFile emptyBody
+unfolding reading namePartsOf
+empty-reads = record { names = partsIn emptyFile; read = refl; fact-names = refl; step-names = refl; job-names = refl }
+
+pub none-reads : ExampleReads noneFile withoutMethods
+unfolding reading namePartsOf
+none-reads = record { names = partsIn noneFile; read = refl; fact-names = refl; step-names = refl; job-names = refl }
+
+pub both-reads : ExampleReads bothFile serveAndLift
+unfolding reading namePartsOf
+both-reads = record { names = partsIn bothFile; read = refl; fact-names = refl; step-names = refl; job-names = refl }
+
+pub both-deeper-reads : ExampleReads bothDeeperFile serveAndLiftDeeper
+unfolding reading namePartsOf
+both-deeper-reads = record { names = partsIn bothDeeperFile; read = refl; fact-names = refl; step-names = refl; job-names = refl }
+
+pub twice-reads : ExampleReads twiceFile twice
+unfolding reading namePartsOf
+twice-reads = record { names = partsIn twiceFile; read = refl; fact-names = refl; step-names = refl; job-names = refl }
+
+pub needs-reads : ExampleReads needsFile needsOpen
+unfolding reading namePartsOf
+needs-reads = record { names = partsIn needsFile; read = refl; fact-names = refl; step-names = refl; job-names = refl }
+
+pub needs-start-reads : ExampleReads needsStartFile needsOpenAtStart
+unfolding reading namePartsOf
+needs-start-reads = record { names = partsIn needsStartFile; read = refl; fact-names = refl; step-names = refl; job-names = refl }
+
+pub clears-reads : ExampleReads clearsFile setsAndClears
+unfolding reading namePartsOf
+clears-reads = record { names = partsIn clearsFile; read = refl; fact-names = refl; step-names = refl; job-names = refl }
+
+pub marked-files : MarkedFiles
+marked-files =
+    (shown-reads, (deeper-reads, (empty-reads, (none-reads, (both-reads, (both-deeper-reads, (twice-reads, (needs-reads, (needs-start-reads, (clears-reads, tt))))))))))
 
 pub edges : Edges
 unfolding reading namePartsOf
 edges = record {
-  depth-8 = record { names = partsIn (bytes "F\topen\nS\tlift\t-\topen\t-\nT\tserve\nM\tserve\tlift\nI\t-\nR\tserve\t8\n"); read = refl; fact-names = refl; step-names = refl; job-names = refl };
-  body-8 = record { names = partsIn (bytes "F\topen\nS\tlift\t-\topen\t-\nT\tserve\nM\tserve\tlift,lift,lift,lift,lift,lift,lift,lift\nI\t-\nR\tserve\t1\n"); read = refl; fact-names = refl; step-names = refl; job-names = refl };
+  depth-8 = record { names = partsIn (fileWith "-\topen\t-" "M\tserve\tlift\n" "-" "8"); read = refl; fact-names = refl; step-names = refl; job-names = refl };
+  body-8 =
+      record {
+        names = partsIn (fileWith "-\topen\t-" "M\tserve\tlift,lift,lift,lift,lift,lift,lift,lift\n" "-" "1");
+        read = refl;
+        fact-names = refl;
+        step-names = refl;
+        job-names = refl;
+      };
   depth-0 = refl;
   depth-9 = refl;
   body-9 = refl;
   facts-64 = (partsIn (factsFile 64), refl);
   facts-65 = refl;
+  three-5 = record { names = partsIn (threeServesFile "5"); read = refl; fact-names = refl; step-names = refl; job-names = refl };
+  three-6 = record { names = partsIn (threeServesFile "6"); read = refl; fact-names = refl; step-names = refl; job-names = refl };
   empty = refl;
 }

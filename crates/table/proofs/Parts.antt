@@ -8,7 +8,8 @@ use lib.ListN.{length, getD, length-append, List·getD-append}
 use lib.Seq.{getD-append-add}
 use Rattle.lists.specs.List.{from}
 use Rattle.lists.proofs.Place.{map-from}
-use Rattle.lines.specs.Parts.{Piece, noLine, linesOf, linesFrom}
+use Rattle.lines.specs.Parts.{Piece, noLine, linesOf}
+use Rattle.lines.specs.Cut.{linesFrom}
 use Rattle.outline.specs.Sections.{Sections, sections}
 use Rattle.outline.specs.Part.{partOf}
 use Rattle.table.specs.Reading.{NameParts, namePartsOf}

@@ -5,34 +5,35 @@ use mathlib.Core.Bool.{Bool, true, false, cond, _&&_, _||_}
 use mathlib.Core.List.{List, [], _∷_, _++_, map}
 use Prim.Native.Nat.{ℕ, zero, suc, _≤_, _<_}
 use native.Mathlib.Omega.{arith}
-use lib.Dec.{lit<}
+use lib.Dec.{lit<, leb}
 use lib.ListN.{length, length-map}
 use Rattle.lists.specs.List.{all, has, Every, Rising, noneTwice}
 use Rattle.lists.specs.Question.{firstUnmet}
-use Rattle.lists.proofs.Bool.{and-l, and-r, leb-sound}
+use Rattle.lists.proofs.Bool.{and-l, and-r, leb-sound, leb-no}
 use Rattle.lists.proofs.Member.{any-append}
 use Rattle.lists.proofs.Question.{all-met}
 use Rattle.lists.proofs.Rising.{rising-filter}
 use Rattle.planning.specs.Table.{Table, step, job, TaskIn, StepIn, MethodIn, Method, Sound, Limits}
 use Rattle.lines.specs.Bytes.{sameBytes}
 use Rattle.lines.specs.Parts.{Piece, linesOf}
+use Rattle.grammar.specs.Byte.{lower, ofName}
 use Rattle.grammar.specs.Name.{Name, isName}
 use Rattle.grammar.specs.Line.{nameIn, needsIn, setsIn, clearsIn, bodyIn, startIn, F, S, T, list, isLine}
 use Rattle.grammar.specs.File.{met2, met3}
 use Rattle.outline.specs.Sections.{Sections, sections, past, startLine, rootLine}
 use Rattle.outline.specs.Names.{namesOf, among, numberOf, fact, step as stepKind, job as jobKind, declared, allNew, allDeclared}
-use Rattle.outline.specs.Questions.{short, met4, met5, met6, questions2to5, withinCounts}
+use Rattle.outline.specs.Questions.{short, met4, met5, met6, withinCounts}
 use Rattle.outline.specs.Part.{partOf}
 use Rattle.table.specs.Reading.{NameParts, namePartsOf, readTable, Reading, refused, passed, verdict, questions2to7, reading}
-use Rattle.outline.specs.Outlined.{questions2to6}
+use Rattle.outline.specs.Outlined.{questions2to5, questions2to6}
 use Rattle.rows.specs.Uses.{areFacts, usesFacts, usesTasks, met7, factsOf, taskOf}
 use Rattle.rows.specs.Row.{readStep, readMethod}
-use Rattle.table.specs.Promises.{Promised, Promises, namesAt}
+use Rattle.table.specs.Promises.{Promised, Promises, namesAt, allNames}
 use Rattle.table.proofs.Depth.{deep-root, all-past}
 use Rattle.table.proofs.Shown.{stands-lines, stands-leading, stands-past, stands-all}
 use Rattle.outline.proofs.Questions.{counts-small}
 use Rattle.rows.proofs.Counts.{number-in}
-use Rattle.lists.proofs.Every.{every-append}
+use Rattle.lists.proofs.Every.{every-append, every-imp}
 use Rattle.table.specs.Layout.{tableFrom, namePartsFrom, readingOf}
 use Rattle.table.proofs.Formed.{names-formed, begins-F, begins-S, begins-T}
 
@@ -179,6 +180,12 @@ among-seven s n e h = let p = sections (linesOf s) in go (met2 s) (met3 (linesOf
     go true true true true true false e = (omega arith, omega arith)
     go true true true true true true e = absurd (omega arith)
 
+-- "A name is 1 to 12 characters"
+name-short : (n : Name) → isName n ≡ true → length n ≤ 12
+unfolding isName
+name-short [] h = omega arith
+name-short (b ∷ s) h = let k = leb-sound (length s) 11 (and-r (lower b && all ofName s) (leb (length s) 11) h) in omega arith
+
 promised : (s : List ℕ) → 0 ≡ firstUnmet (questions2to7 s) → Promised s (readTable (sections (linesOf s))) (namePartsOf (sections (linesOf s)))
 unfolding sections namePartsOf readTable met3 met6 allNew allDeclared declared
 promised s e =
@@ -208,6 +215,7 @@ promised s e =
       steps = length-map (p .steps) partOf ∙ sym (length-map (p .steps) (λ (l : Piece). readStep (declared p fact) (l .bytes)));
       jobs = length-map (p .jobs) partOf;
       formed = subst (Every isN) named every;
+      short = every-imp isN (λ (n : Name). length n ≤ 12) name-short (allNames s (namePartsOf p)) (subst (Every isN) named every);
       new = sym (ap (noneTwice sameBytes) named) ∙ m .sixth;
     }
 
@@ -225,10 +233,15 @@ refused-by : (q : ℕ) (t : Table) (ns : NameParts) → (q ≡ 0 → ⊥) → ve
 refused-by zero t ns n = absurd (n refl)
 refused-by (suc q) t ns n = refl
 
+too-long : (s : List ℕ) → 65536 < length s → reading s ≡ refused 2
+unfolding reading met2
+too-long s h = rw (leb-no (length s) 65536 h)
+
 pub promises : Promises
 unfolding reading readingOf
 promises = record {
   met = taken;
+  too-long = too-long;
   unmet = λ s n e.
       let p = sections (linesOf s) in
       let r = verdict-refused (firstUnmet (questions2to7 s)) n (readTable p) (namePartsOf p) e in

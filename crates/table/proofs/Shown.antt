@@ -15,7 +15,8 @@ use Rattle.lines.proofs.Lines.{from-all, from-end, from-last, from-more}
 use Rattle.lines.proofs.Slice.{take-drop}
 use Rattle.lines.specs.Bytes.{LF}
 use Rattle.lines.specs.Cut.{Cut, before}
-use Rattle.lines.specs.Parts.{Piece, lineAt, linesFrom, linesOf}
+use Rattle.lines.specs.Parts.{Piece, linesOf}
+use Rattle.lines.specs.Cut.{lineAt, linesFrom}
 use Rattle.lists.proofs.Order.{le-or-lt}
 use Rattle.lists.specs.List.{Every}
 use Rattle.lists.specs.Text.{bytes}

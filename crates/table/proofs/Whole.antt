@@ -10,12 +10,13 @@ use Rattle.lists.specs.List.{all}
 use Rattle.lists.specs.Question.{firstUnmet}
 use Rattle.lists.proofs.Bool.{and-l, and-r}
 use Rattle.planning.specs.Table.{Table}
-use Rattle.lines.specs.Parts.{linesOf, linesFrom}
+use Rattle.lines.specs.Parts.{linesOf}
+use Rattle.lines.specs.Cut.{linesFrom}
 use Rattle.grammar.specs.Line.{nameIn, startIn}
 use Rattle.outline.specs.Sections.{sections, startLine, rootLine}
 use Rattle.outline.specs.Names.{among, fact, job, task, declared}
-use Rattle.outline.specs.Questions.{withinCounts, short, met6, questions2to5}
-use Rattle.outline.specs.Outlined.{Outlined, questions2to6}
+use Rattle.outline.specs.Questions.{withinCounts, short, met6}
+use Rattle.outline.specs.Outlined.{Outlined, questions2to5, questions2to6}
 use Rattle.outline.specs.declared.Outline.{Outline}
 use Rattle.outline.proofs.Outlined.{Met2to5, met-2to6}
 use Rattle.outline.proofs.Questions.{fifth, counts-small, method-lines}
@@ -25,7 +26,8 @@ use Rattle.rows.specs.declared.Steps.{Steps}
 use Rattle.rows.specs.declared.Methods.{Methods}
 use Rattle.rows.specs.declared.Ends.{Ends}
 use Rattle.rows.proofs.Counts.{count-steps}
-use Rattle.table.specs.Layout.{tableFrom, namePartsFrom, noTable, tableWith, readingOf, Reads}
+use Rattle.table.specs.Layout.{tableFrom, namePartsFrom, noTable, readingOf, Reads}
+use Rattle.table.specs.Code.{tableWith}
 use Rattle.table.specs.declared.Table.{Table as ReadTable}
 use Rattle.table.proofs.Parts.{names-held}
 use Rattle.table.proofs.Rows.{steps-read, methods-read}
@@ -66,7 +68,7 @@ module _ {s : List ℕ} {o : Outline} (u : Outlined s o) where
     met = met-2to6 s (sym z ∙ u .asked)
 
     five : (withinCounts (o .shape .facts) (o .shape .steps) (o .shape .jobs) (o .shape .methods) && all short (slice 0 (o .shape .methods) (linesFrom s (o .shape .«methods_at»)))) ≡ true
-    five = sym (fifth (u .shaped)) ∙ met .0 .fifth
+    five = sym (fifth (u .shaped z)) ∙ met .0 .fifth
 
     -- questions 2 to 6 are met
     pub ready : Ready s (o .shape) (o .names .start) (o .names .size)
@@ -76,13 +78,13 @@ module _ {s : List ℕ} {o : Outline} (u : Outlined s o) where
         let b = all short (slice 0 (h .methods) (linesFrom s (h .«methods_at»))) in
         let c = counts-small (h .facts) (h .steps) (h .jobs) (h .methods) (and-l w b five) in
         record {
-          shaped = u .shaped;
+          shaped = u .shaped z;
           indexed = u .indexed z;
           facts = c .0;
           steps = c .1;
           jobs = c .2;
           methods = c .3;
-          bodies = sym (ap (all short) (method-lines (u .shaped))) ∙ and-r w b five;
+          bodies = sym (ap (all short) (method-lines (u .shaped z))) ∙ and-r w b five;
           ends = met .0 .fourth;
         }
 
@@ -109,7 +111,7 @@ module _ {s : List ℕ} {o : Outline} (u : Outlined s o) where
           let t₄ = among (declared p job) (nameIn (rootLine p)) in
           let i = ready .indexed in
           let ss = steps-read (declared p fact) (p .steps) (x .needs) (x .sets) (x .clears) (x .ok) (h .steps) (i .steps) a (and-l t₁ (t₂ && (t₃ && t₄)) t) in
-          let ms = methods-read p (p .methods) (m .owners) (m .sizes) (m .bodies) (m .ok) (h .steps) (h .methods) (count-steps ready) (u .shaped .methods) b in
+          let ms = methods-read p (p .methods) (m .owners) (m .sizes) (m .bodies) (m .ok) (h .steps) (h .methods) (count-steps ready) (u .shaped z .methods) b in
           let st = c .set (and-l t₃ t₄ (and-r t₂ (t₃ && t₄) (and-r t₁ (t₂ && (t₃ && t₄)) t))) in
           λ k. record { facts = i .facts k; steps = ss k; jobs = i .jobs k; methods = ms k; start = st k; root = c .root k; depth = c .depth k }
 

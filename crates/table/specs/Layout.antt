@@ -2,7 +2,7 @@
 -- Both are shut to other crates, which know them through the contracts of the calls and through Promises.
 -- Assumes nothing.
 use mathlib.Core.Path.{_≡_}
-use mathlib.Core.Bool.{cond, _&&_}
+use mathlib.Core.Bool.{cond}
 use mathlib.Core.List.{List, [], _∷_, map}
 use mathlib.Core.Option.{Option, none, some}
 use Prim.Native.Nat.{ℕ, _+_, _-_, _*_}
@@ -12,11 +12,6 @@ use Rattle.lists.specs.List.{from, upTo}
 use Rattle.bitset.specs.Set.{members}
 use Rattle.planning.specs.Table.{Task as PlanningTask, step, job, Step, Method, Table}
 use Rattle.lines.specs.Part.{Part}
-use Rattle.outline.specs.declared.Shape.{Shape}
-use Rattle.outline.specs.declared.Spans.{Spans}
-use Rattle.rows.specs.declared.Steps.{Steps}
-use Rattle.rows.specs.declared.Methods.{Methods}
-use Rattle.rows.specs.declared.Ends.{Ends}
 use Rattle.table.specs.Reading.{NameParts, Reading, verdict, reading}
 use Rattle.table.specs.declared.Table.{Table as ReadTable}
 use Rattle.table.specs.declared.Outcome.{Outcome}
@@ -84,33 +79,14 @@ noTable = record {
   depth = 0;
 }
 
--- the table that the code puts together from a file's shape, its names and its lines
-abbrev pub tableWith : Shape → Spans → Steps → Methods → Ends → ReadTable
-tableWith h n x m e = record {
-  facts = h .facts;
-  steps = h .steps;
-  jobs = h .jobs;
-  methods = h .methods;
-  starts = n .start;
-  lengths = n .size;
-  needs = x .needs;
-  sets = x .sets;
-  clears = x .clears;
-  owners = m .owners;
-  sizes = m .sizes;
-  bodies = m .bodies;
-  start = e .start;
-  root = e .root;
-  depth = e .depth;
-}
-
 -- The answers of the calls ---------------------------------------------------------------------------------------------------
 -- the read: the number of the first question that is not met, 0 where all are, beside the table
 unfoldable pub readingOf : Outcome → Reading
 unfolding tableFrom namePartsFrom
 readingOf r = verdict (r .question) (tableFrom (r .table)) (namePartsFrom (r .table))
 
--- the whole outcome: the reading, and nothing in the table beside a refusal
+-- the whole outcome: the reading, and nothing in the table beside a refusal. Left free: cells of a read table that no call shows, those past
+-- the last of a count
 pub record Reads (s : List ℕ) (r : Outcome) : Type 0 where
   pub read : readingOf r ≡ reading s
   pub nothing : (r .question ≡ 0 → ⊥) → r .table ≡ noTable
@@ -120,10 +96,6 @@ abbrev pub taskFrom : Task → Option PlanningTask
 taskFrom (StepTask s) = some (step s)
 taskFrom (JobTask j) = some (job j)
 taskFrom Nothing = none
-
--- the task at place j of method m's body of n tasks, by the byte that it is kept as
-abbrev pub taskWith : (bodies : List ℕ) (steps methods n m j : ℕ) → Option PlanningTask
-taskWith bodies steps methods n m j = cond (ltb j n) (some (taskAt steps (cond (ltb m methods && ltb j 256) (getD bodies (m * 8 + j) 0) 0))) none
 
 -- the part of a name past the last: empty
 abbrev pub noPart : Part

@@ -7,3 +7,5 @@ pub mod Layout
 -- the statements: what holds of every reading; the files of the marked tables, and the edges
 pub mod Promises
 pub mod Examples
+-- inside: the table as the code puts it together
+pub mod Code

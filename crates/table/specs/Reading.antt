@@ -7,7 +7,7 @@ use lib.ListN.{length}
 use Rattle.lists.specs.Question.{firstUnmet}
 use Rattle.planning.specs.Table.{Table}
 use Rattle.lines.specs.Parts.{linesOf}
-use Rattle.lines.specs.Part.{Part}
+use Rattle.lines.specs.Part.{Part, bytesAt}
 use Rattle.grammar.specs.File.{met2, met3}
 use Rattle.grammar.specs.Line.{nameIn, startIn, depthIn}
 use Rattle.outline.specs.Sections.{Sections, sections, startLine, rootLine}
@@ -35,6 +35,10 @@ pub record NameParts : Type 0 where
   pub facts : List Part
   pub steps : List Part
   pub jobs : List Part
+
+-- "Each name shown is the part of the table file where it was declared": the name that stands at a part
+abbrev pub nameAt : (file : List ℕ) → Part → List ℕ
+nameAt file p = bytesAt file p
 
 unfoldable pub namePartsOf : Sections → NameParts
 unfolding partOf

@@ -11,7 +11,8 @@ ghost use Rattle.lists.specs.List.{upTo};
 ghost use Rattle.bitset.specs.Set.{members};
 ghost use Rattle.planning.specs.Table.{stepOf, jobOf, bodyOf};
 ghost use Rattle.lines.specs.Part.{bytesAt};
-ghost use Rattle.table.specs.Layout.{tableFrom, namePartsFrom, taskAt, taskFrom, taskWith, noTable, tableWith, partWith, noPart, Reads};
+ghost use Rattle.table.specs.Layout.{tableFrom, namePartsFrom, taskAt, taskFrom, noTable, partWith, noPart, Reads};
+ghost use Rattle.table.specs.Code.{taskWith, tableWith};
 use outline::Places;
 use outline::Shape;
 use outline::Spans;
@@ -142,22 +143,22 @@ pub fn read(file: &[u8]) -> Outcome
 }
 
 // Element i, or 0 past the last: so that no number asked for is out of range.
-fn word_at(a: &[u64], i: usize) -> u64
-    ensures { λ r. ⌜ r ≡ getD (now (a .entry)) i 0 ⌝ }
+fn word_at(words: &[u64], i: usize) -> u64
+    ensures { λ r. ⌜ r ≡ getD (now (words .entry)) i 0 ⌝ }
 {
-    if i < a.len() { a[i] } else { 0 }
+    if i < words.len() { words[i] } else { 0 }
 }
 
-fn byte_at(a: &[u8], i: usize) -> u8
-    ensures { λ r. ⌜ r ≡ getD (now (a .entry)) i 0 ⌝ }
+fn byte_at(bytes: &[u8], i: usize) -> u8
+    ensures { λ r. ⌜ r ≡ getD (now (bytes .entry)) i 0 ⌝ }
 {
-    if i < a.len() { a[i] } else { 0 }
+    if i < bytes.len() { bytes[i] } else { 0 }
 }
 
-fn place_at(a: &[usize], i: usize) -> usize
-    ensures { λ r. ⌜ r ≡ getD (now (a .entry)) i 0 ⌝ }
+fn place_at(places: &[usize], i: usize) -> usize
+    ensures { λ r. ⌜ r ≡ getD (now (places .entry)) i 0 ⌝ }
 {
-    if i < a.len() { a[i] } else { 0 }
+    if i < places.len() { places[i] } else { 0 }
 }
 
 // Word i of the first n as a set, and byte i of the first n: the empty set and 0 from n on.

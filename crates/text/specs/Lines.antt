@@ -1,4 +1,4 @@
--- Inside the encoding: lines written one behind the other. Nothing to believe: what is written is planning's text.
+-- Inside the encoding, nothing to believe: lines written one behind the other. What is written is planning's text.
 -- Assumes nothing.
 use mathlib.Core.Path.{_≡_}
 use mathlib.Core.Bool.{cond}

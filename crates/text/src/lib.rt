@@ -48,7 +48,8 @@ fn put_lines<'a, 'b>(
     c0: Cursor,
     j: usize,
 ) -> Lines
-    requires { ⌜ Indexed (tableIn (now ws)) (now ix) × In (tableIn (now ws)) c0 × (start ≤ length (now text)) × (j + length (linesFrom (tableIn (now ws)) c0) < 18446744073709551616) ⌝ }
+    requires { ⌜ Indexed (tableIn (now ws)) (now ix) × In (tableIn (now ws)) c0 × (start ≤ length (now text))
+        × (j + length (linesFrom (tableIn (now ws)) c0) < 18446744073709551616) ⌝ }
     ensures { λ r. ⌜ Put (linesFrom (tableIn (now (ws .entry))) c0) start j (now (text .entry)) (now (text .exit)) r ⌝ }
 {
     let mut lits = [0u64; 136];
@@ -88,7 +89,8 @@ pub fn put_text<'a, 'b>(
     clauses: usize,
     line: usize,
 ) -> Lines
-    requires { ⌜ Indexed (tableIn (now ws)) (now ix) × (variables ≡ variablesOf (tableIn (now ws))) × (clauses ≡ length (formula (tableIn (now ws)))) × (clauses ≤ 3758096384) × (line ≤ clauses) ⌝ }
+    requires { ⌜ Indexed (tableIn (now ws)) (now ix) × (variables ≡ variablesOf (tableIn (now ws))) × (clauses ≡ length (formula (tableIn (now ws))))
+        × (clauses ≤ 3758096384) × (line ≤ clauses) ⌝ }
     ensures { λ r. ⌜ PutText (tableIn (now (ws .entry))) line (now (text .entry)) (now (text .exit)) r ⌝ }
 {
     if line > 0 {

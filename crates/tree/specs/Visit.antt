@@ -1,4 +1,4 @@
--- Inside the encoding: what the visits of nodes and of children say. Nothing to believe: the records and counts that come of them are
+-- Inside the encoding, nothing to believe: what the visits of nodes and of children say. The records and counts that come of them are
 -- planning's. Assumes nothing.
 use mathlib.Core.Path.{_≡_}
 use mathlib.Core.Bool.{Bool, true, false}
@@ -104,7 +104,8 @@ nodeTotal T = nodes (rootPlace T)
 abbrev pub slotTotal : Table → ℕ
 slotTotal T = length (slots T)
 
--- What was counted: all nodes, as 1,025 where there are more than 1,024; variables and slots where there are not more
+-- What was counted: all nodes, as 1,025 where there are more than 1,024; variables and slots where there are not more. Left free: variables and
+-- slots of more than 1,024 nodes, of which only `small` is known
 pub record Counted (T : Table) (r : Count) : Type 0 where
   pub nodes : r .nodes ≡ min (nodeTotal T) 1025
   pub variables : nodeTotal T ≤ 1024 → r .variables ≡ nodeVars T

@@ -1,4 +1,4 @@
--- Inside the calls: the tree records as words, five a record.
+-- Inside the encoding, nothing to believe: the tree records as words, five a record.
 -- Assumes nothing.
 use mathlib.Core.List.{List, _∷_, _++_}
 use Prim.Native.Nat.{ℕ}

@@ -15,7 +15,8 @@ ghost use Rattle.planning.specs.Variable.{nodeVars};
 ghost use Rattle.table.specs.Layout.{taskFrom};
 ghost use Rattle.sheet.specs.Sheet.{tableIn};
 ghost use Rattle.tree.specs.Words.{treeWords};
-ghost use Rattle.tree.specs.Visit.{membersIn, labelIn, someIn, Inside, Known, withTask, slotsOf, Small, VisitedPart, VisitedParts, VisitedTree, Counted, nodeTotal, Put};
+ghost use Rattle.tree.specs.Visit.{membersIn, labelIn, someIn, Inside, Known, withTask, slotsOf, Small, VisitedPart, VisitedParts};
+ghost use Rattle.tree.specs.Visit.{VisitedTree, Counted, nodeTotal, Put};
 use table::Task;
 
 // What a node may hold: a word for its steps and a word for its jobs.
@@ -75,7 +76,8 @@ fn with_task(l: Label, t: Task) -> Label
 // The label with the task that method m names at place i, if the method is one of these jobs'.
 fn with_method(ws: &[u64], jobs: u64, i: usize, m: usize, l: Label) -> Label
     requires { ⌜ (m < 128) × (i < 8) ⌝ }
-    ensures { λ r. ⌜ r ≡ cond (contains (jobs ∷ []) (jobOf (tableIn (now (ws .entry))) m)) (withTask l (getElem? (bodyOf (tableIn (now (ws .entry))) m) i)) l ⌝ }
+    ensures { λ r. ⌜ r ≡ cond (contains (jobs ∷ []) (jobOf (tableIn (now (ws .entry))) m))
+        (withTask l (getElem? (bodyOf (tableIn (now (ws .entry))) m) i)) l ⌝ }
 {
     if holds(jobs, sheet::job_of(ws, m)) {
         return with_task(l, sheet::task(ws, m, i));
@@ -235,7 +237,9 @@ fn with_slot(c: Count, l: Label) -> Count
 
 fn with_inner(ws: &[u64], c: Count, l: Label) -> Count
     requires { ⌜ Known (tableIn (now ws)) × Small c × (c .nodes < 1024) ⌝ }
-    ensures { λ r. ⌜ (r .nodes ≡ c .nodes + 1) × (r .variables ≡ c .variables + (length (membersIn (l .steps)) + length (membersIn (l .jobs)) + length (methodsOf (tableIn (now (ws .entry))) (membersIn (l .jobs))))) × (r .slots ≡ c .slots) × Small r ⌝ }
+    ensures { λ r. ⌜ (r .nodes ≡ c .nodes + 1) × (r .variables ≡ c .variables +
+        (length (membersIn (l .steps)) + length (membersIn (l .jobs)) + length (methodsOf (tableIn (now (ws .entry))) (membersIn (l .jobs))))) ×
+        (r .slots ≡ c .slots) × Small r ⌝ }
 {
     let own = size(l.steps) + size(l.jobs) + count_methods(ws, l.jobs);
     Count {

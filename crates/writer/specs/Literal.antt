@@ -1,4 +1,4 @@
--- Inside the encoding: a literal as one number. 2 * v stands for variable v, and 2 * v + 1 for v negated.
+-- Inside the encoding, nothing to believe: a literal as one number. 2 * v stands for variable v, and 2 * v + 1 for v negated.
 -- Assumes nothing.
 use mathlib.Core.Bool.{cond}
 use mathlib.Core.List.{List, map}

@@ -1,4 +1,4 @@
-//! The crates' five calls, linked into one process with the second planner: compared with it call by call (`calls`), and measured beside
+//! The crates' seven calls, linked into one process with the second planner: compared with it call by call (`calls`), and measured beside
 //! it and beside a planner in Rust that is written for speed (`direct`).
 
 pub mod calls;

@@ -22,6 +22,15 @@ mod c {
             used: &mut usize,
             next: &mut usize,
         ) -> usize;
+        pub fn curdfuture_write_formula(
+            file: *const u8,
+            bytes: usize,
+            line: usize,
+            text: *mut u8,
+            room: usize,
+            used: &mut usize,
+            next: &mut usize,
+        ) -> usize;
         pub fn curdfuture_take_answer(
             file: *const u8,
             bytes: usize,
@@ -40,6 +49,15 @@ mod c {
             records: usize,
             values: *const u8,
             count: usize,
+            listing: *mut u8,
+            room: usize,
+            used: &mut usize,
+        ) -> usize;
+        pub fn curdfuture_list_answer(
+            file: *const u8,
+            bytes: usize,
+            reply: *const u8,
+            length: usize,
             listing: *mut u8,
             room: usize,
             used: &mut usize,
@@ -102,6 +120,15 @@ pub fn write_text(file: &[u8], tree: &[Record], line: usize, text: &mut [u8]) ->
     Called::of(question, [used, next])
 }
 
+/// The same with no tree lent.
+pub fn write_formula(file: &[u8], line: usize, text: &mut [u8]) -> Called<2> {
+    let [mut used, mut next] = [LENT; 2];
+    // SAFETY: as above.
+    let question =
+        unsafe { c::curdfuture_write_formula(file.as_ptr(), file.len(), line, text.as_mut_ptr(), text.len(), &mut used, &mut next) };
+    Called::of(question, [used, next])
+}
+
 /// How many values were written.
 pub fn take_answer(file: &[u8], tree: &[Record], reply: &[u8], values: &mut [u8]) -> Called<1> {
     let mut count = LENT;
@@ -142,6 +169,16 @@ pub fn list_procedure(file: &[u8], tree: &[Record], values: &[u8], listing: &mut
     Called::of(question, [used])
 }
 
+/// The bytes used; the values are an answer's, and neither they nor a tree are lent.
+pub fn list_answer(file: &[u8], reply: &[u8], listing: &mut [u8]) -> Called<1> {
+    let mut used = LENT;
+    // SAFETY: as above.
+    let question = unsafe {
+        c::curdfuture_list_answer(file.as_ptr(), file.len(), reply.as_ptr(), reply.len(), listing.as_mut_ptr(), listing.len(), &mut used)
+    };
+    Called::of(question, [used])
+}
+
 #[cfg(test)]
 mod tests {
     use super::*;
@@ -169,5 +206,18 @@ mod tests {
         assert_eq!(list_procedure(file, &tree, &values, &mut listing).outcome, Ok([EXAMPLE_LISTING.len()]));
         assert_eq!(listing[..EXAMPLE_LISTING.len()], *EXAMPLE_LISTING.as_bytes());
         assert_eq!(check(b""), Called { outcome: Err(Refused(2)), kept: true });
+    }
+
+    #[test]
+    fn the_example_without_a_tree() {
+        let file = EXAMPLE.as_bytes();
+        let mut text = [9; TEXT_BYTES];
+        assert_eq!(write_formula(file, 1, &mut text).outcome, Ok([EXAMPLE_FORMULA.len() - 10, 10]));
+        assert_eq!(text[..EXAMPLE_FORMULA.len() - 10], EXAMPLE_FORMULA.as_bytes()[10..]);
+        let mut listing = [0; LISTING_BYTES];
+        assert_eq!(list_answer(file, EXAMPLE_ANSWER.as_bytes(), &mut listing).outcome, Ok([EXAMPLE_LISTING.len()]));
+        assert_eq!(listing[..EXAMPLE_LISTING.len()], *EXAMPLE_LISTING.as_bytes());
+        assert_eq!(write_formula(file, 10, &mut text), Called { outcome: Err(Refused(11)), kept: true });
+        assert_eq!(list_answer(file, b"", &mut listing), Called { outcome: Err(Refused(12)), kept: true });
     }
 }

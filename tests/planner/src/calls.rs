@@ -1,10 +1,8 @@
-//! The five calls with what they are lent. A call that turns something down leaves every buffer as it was.
+//! The seven calls with what they are lent. A call that turns something down leaves every buffer as it was.
 
-use crate::answer;
 use crate::formula::{formula, Formula};
-use crate::model::{every_clause_is_satisfied, tree};
+use crate::model::{every_clause_is_satisfied, listed, taken};
 use crate::places::{record, Record};
-use crate::procedure::listing;
 use crate::text::lines_that_fit;
 use crate::{question, Outcome};
 
@@ -30,30 +28,40 @@ pub fn build(file: &[u8], tree: &mut [Record]) -> Outcome<usize> {
 /// The bytes used and the next line.
 pub fn write_text(file: &[u8], tree: &[Record], line: usize, text: &mut [u8]) -> Outcome<(usize, usize)> {
     question(1, tree.len() >= TREE_RECORDS && text.len() >= TEXT_BYTES)?;
-    let formula = with_tree(file, tree)?;
-    let (lines, next) = lines_that_fit(&formula, line, text.len())?;
-    Ok((put(lines.as_bytes(), text), next))
+    write_lines(&with_tree(file, tree)?, line, text)
+}
+
+/// The same with no tree lent.
+pub fn write_formula(file: &[u8], line: usize, text: &mut [u8]) -> Outcome<(usize, usize)> {
+    question(1, text.len() >= TEXT_BYTES)?;
+    write_lines(&formula(file)?, line, text)
 }
 
 /// How many values were written.
 pub fn take_answer(file: &[u8], tree: &[Record], answer: &[u8], values: &mut [u8]) -> Outcome<usize> {
     question(1, tree.len() >= TREE_RECORDS && values.len() >= VALUES)?;
-    let formula = with_tree(file, tree)?;
-    let taken = answer::values(answer, formula.variables.count)?;
-    every_clause_is_satisfied(&formula, &taken)?;
-    let bytes: Vec<u8> = taken.into_iter().map(u8::from).collect();
+    let model = taken(&with_tree(file, tree)?, answer)?;
+    let bytes: Vec<u8> = model.into_iter().map(u8::from).collect();
     Ok(put(&bytes, values))
 }
 
 /// The bytes used.
-pub fn list_procedure(file: &[u8], lent: &[Record], values: &[u8], bytes: &mut [u8]) -> Outcome<usize> {
-    question(1, lent.len() >= TREE_RECORDS && values.len() >= VALUES && bytes.len() >= LISTING_BYTES)?;
-    let formula = with_tree(file, lent)?;
+pub fn list_procedure(file: &[u8], tree: &[Record], values: &[u8], listing: &mut [u8]) -> Outcome<usize> {
+    question(1, tree.len() >= TREE_RECORDS && values.len() >= VALUES && listing.len() >= LISTING_BYTES)?;
+    let formula = with_tree(file, tree)?;
     let own = &values[..formula.variables.count as usize];
     question(14, own.iter().all(|value| *value <= 1))?;
     let model: Vec<bool> = own.iter().map(|value| *value == 1).collect();
     every_clause_is_satisfied(&formula, &model)?;
-    Ok(put(listing(&formula.table, &tree(&formula, &model)).as_bytes(), bytes))
+    Ok(put(listed(&formula, &model).as_bytes(), listing))
+}
+
+/// The bytes used; the values are an answer's, and neither they nor a tree are lent.
+pub fn list_answer(file: &[u8], answer: &[u8], listing: &mut [u8]) -> Outcome<usize> {
+    question(1, listing.len() >= LISTING_BYTES)?;
+    let formula = formula(file)?;
+    let model = taken(&formula, answer)?;
+    Ok(put(listed(&formula, &model).as_bytes(), listing))
 }
 
 fn records(formula: &Formula) -> Vec<Record> {
@@ -67,6 +75,11 @@ fn with_tree(file: &[u8], tree: &[Record]) -> Outcome<Formula> {
     Ok(formula)
 }
 
+fn write_lines(formula: &Formula, line: usize, text: &mut [u8]) -> Outcome<(usize, usize)> {
+    let (lines, next) = lines_that_fit(formula, line, text.len())?;
+    Ok((put(lines.as_bytes(), text), next))
+}
+
 fn put(bytes: &[u8], buffer: &mut [u8]) -> usize {
     buffer[..bytes.len()].copy_from_slice(bytes);
     bytes.len()
@@ -75,7 +88,7 @@ fn put(bytes: &[u8], buffer: &mut [u8]) -> usize {
 #[cfg(test)]
 mod tests {
     use super::*;
-    use crate::files::{EXAMPLE, EXAMPLE_ANSWER, EXAMPLE_FORMULA, EXAMPLE_LISTING};
+    use crate::files::{answers_turned_down, EXAMPLE, EXAMPLE_ANSWER, EXAMPLE_FORMULA, EXAMPLE_LISTING};
     use crate::Refused;
 
     const SEVENS: Record = Record { depth: 7, parent: 7, children: 7, steps: 7, jobs: 7 };
@@ -99,8 +112,23 @@ mod tests {
         let mut values = [9; VALUES];
         assert_eq!(take_answer(file, &tree, EXAMPLE_ANSWER.as_bytes(), &mut values), Ok(5));
         assert_eq!(values[..6], [1, 1, 1, 0, 1, 9]);
-        let mut bytes = [0; LISTING_BYTES];
-        assert_eq!(list_procedure(file, &tree, &values, &mut bytes), Ok(EXAMPLE_LISTING.len()));
+        let mut listing = [9; LISTING_BYTES];
+        assert_eq!(list_procedure(file, &tree, &values, &mut listing), Ok(EXAMPLE_LISTING.len()));
+        assert_eq!(listing[..EXAMPLE_LISTING.len()], *EXAMPLE_LISTING.as_bytes());
+        assert_eq!(listing[EXAMPLE_LISTING.len()], 9);
+    }
+
+    #[test]
+    fn the_example_without_a_tree() {
+        let file = EXAMPLE.as_bytes();
+        let mut text = [9; TEXT_BYTES];
+        assert_eq!(write_formula(file, 1, &mut text), Ok((EXAMPLE_FORMULA.len() - 10, 10)));
+        assert_eq!(text[..EXAMPLE_FORMULA.len() - 10], EXAMPLE_FORMULA.as_bytes()[10..]);
+        assert_eq!(text[EXAMPLE_FORMULA.len() - 10], 9);
+        let mut listing = [9; LISTING_BYTES];
+        assert_eq!(list_answer(file, EXAMPLE_ANSWER.as_bytes(), &mut listing), Ok(EXAMPLE_LISTING.len()));
+        assert_eq!(listing[..EXAMPLE_LISTING.len()], *EXAMPLE_LISTING.as_bytes());
+        assert_eq!(listing[EXAMPLE_LISTING.len()], 9);
     }
 
     #[test]
@@ -116,6 +144,25 @@ mod tests {
         assert_eq!(list_procedure(file, &tree, &values, &mut [0; LISTING_BYTES]), Err(Refused(14)));
         values[4] = 0;
         assert_eq!(list_procedure(file, &tree, &values, &mut [0; LISTING_BYTES]), Err(Refused(15)));
+    }
+
+    /// A question that comes earlier is put first, and a call that turns something down writes nothing.
+    #[test]
+    fn what_calls_without_a_tree_turn_down() {
+        let (file, answer) = (EXAMPLE.as_bytes(), EXAMPLE_ANSWER.as_bytes());
+        let mut text = [9; TEXT_BYTES];
+        assert_eq!(write_formula(b"", 10, &mut text[1..]), Err(Refused(1)));
+        assert_eq!(write_formula(b"", 10, &mut text), Err(Refused(2)));
+        assert_eq!(write_formula(file, 10, &mut text), Err(Refused(11)));
+        assert_eq!(text, [9; TEXT_BYTES]);
+        let mut listing = [9; LISTING_BYTES];
+        assert_eq!(list_answer(b"", b"", &mut listing[1..]), Err(Refused(1)));
+        assert_eq!(list_answer(b"", b"", &mut listing), Err(Refused(2)));
+        for (unmet, answer) in answers_turned_down() {
+            assert_eq!(list_answer(file, answer.as_bytes(), &mut listing), Err(Refused(unmet)));
+        }
+        assert_eq!(listing, [9; LISTING_BYTES]);
+        assert_eq!(list_answer(file, answer, &mut listing), Ok(EXAMPLE_LISTING.len()));
     }
 
     #[test]

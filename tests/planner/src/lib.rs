@@ -25,6 +25,13 @@ pub mod variables;
 #[derive(Debug, Clone, Copy, PartialEq, Eq, PartialOrd, Ord)]
 pub struct Refused(pub u32);
 
+/// As every program writes it.
+impl std::fmt::Display for Refused {
+    fn fmt(&self, text: &mut std::fmt::Formatter) -> std::fmt::Result {
+        write!(text, "refused\t{}", self.0)
+    }
+}
+
 pub type Outcome<T> = Result<T, Refused>;
 
 /// Met, or turned down with the question's number.

@@ -1,7 +1,8 @@
 //! Models: question 15, and the procedure tree that a model gives.
 
+use crate::answer;
 use crate::formula::{Clause, Formula};
-use crate::procedure::Tree;
+use crate::procedure::{listing, Tree};
 use crate::table::Task;
 use crate::{question, Outcome};
 use std::rc::Rc;
@@ -18,9 +19,16 @@ pub fn every_clause_is_satisfied(formula: &Formula, values: &[bool]) -> Outcome<
     question(15, formula.clauses.iter().all(|clause| satisfies(values, clause)))
 }
 
-/// "The tree that a model gives is read from node 0 down."
-pub fn tree(formula: &Formula, values: &[bool]) -> Rc<Tree> {
-    tree_at(formula, values, 0)
+/// The model that an answer gives: questions 12 to 15.
+pub fn taken(formula: &Formula, file: &[u8]) -> Outcome<Vec<bool>> {
+    let values = answer::values(file, formula.variables.count)?;
+    every_clause_is_satisfied(formula, &values)?;
+    Ok(values)
+}
+
+/// The listing of a model's tree. "The tree that a model gives is read from node 0 down."
+pub fn listed(formula: &Formula, model: &[bool]) -> String {
+    listing(&formula.table, &tree_at(formula, model, 0))
 }
 
 fn tree_at(formula: &Formula, values: &[bool], node: usize) -> Rc<Tree> {

@@ -1,11 +1,9 @@
 //! What the two programs write.
 
-use crate::answer;
-use crate::formula::{formula, Formula};
-use crate::model::{every_clause_is_satisfied, tree};
-use crate::procedure::listing;
+use crate::formula::formula;
+use crate::model::{listed, taken};
 use crate::text::whole;
-use crate::{Outcome, Refused};
+use crate::Outcome;
 
 /// What `formula` writes for a table on standard input.
 pub fn formula_writes(file: &[u8]) -> String {
@@ -14,24 +12,18 @@ pub fn formula_writes(file: &[u8]) -> String {
 
 /// What `procedure` writes for a table and an answer.
 pub fn procedure_writes(file: &[u8], answer: &[u8]) -> String {
-    written(formula(file).and_then(|formula| taken_and_listed(&formula, answer)))
-}
-
-pub fn taken_and_listed(formula: &Formula, answer: &[u8]) -> Outcome<String> {
-    let values = answer::values(answer, formula.variables.count)?;
-    every_clause_is_satisfied(formula, &values)?;
-    Ok(listing(&formula.table, &tree(formula, &values)))
+    written(formula(file).and_then(|formula| Ok(listed(&formula, &taken(&formula, answer)?))))
 }
 
 /// "When turned down, either program writes only `refused`, a tab, the number and LF."
 pub fn written(outcome: Outcome<String>) -> String {
-    outcome.unwrap_or_else(|Refused(number)| format!("refused\t{number}\n"))
+    outcome.unwrap_or_else(|refused| format!("{refused}\n"))
 }
 
 /// The number in what a program wrote, 0 where nothing was refused.
 pub fn number_written(output: &[u8]) -> u32 {
     let text = String::from_utf8_lossy(output);
-    text.strip_prefix("refused\t").and_then(|rest| rest.trim_end().parse().ok()).unwrap_or(0)
+    text.strip_prefix("refused\t").and_then(|rest| rest.split(['\t', '\n']).next()?.parse().ok()).unwrap_or(0)
 }
 
 #[cfg(test)]

@@ -47,13 +47,13 @@ same-length : tie.Need-same-length
 same-length c = c .before .before .read-values .kept .1 .1 .1 .0
 
 returns-3 : tie.Need-returns-3
-returns-3 c = read-satisfiable (c .before .before .before .before .before .before .before .before .before .before .before .before .before .before .args .answer .now) (c .before .before .before .before .before .before .before .before .before .before .before .before .before .before .args .n) (c .before .before .before .before .before .before .before .before .before .before .before .fits-and-ends .ensures) (not-false _ (c .before .before .before .before .before .before .before .before .before .before .if1 .left)) (c .before .before .before .before .before .before .before .before .before .pass-comments .ensures) (c .before .before .before .before .before .before .before .before .cut .ensures) (c .before .before .before .before .before .before .before .if2 .left) (sym (c .before .before .before .before .enum-told .given .1) ∙ c .before .before .before .before .before .before .word-of .ensures) (c .before .before .read-values .ensures)
+returns-3 c = read-satisfiable (c .before .before .before .before .before .before .before .before .before .before .before .before .before .before .args .answer .now) (c .before .before .before .before .before .before .before .before .before .before .before .before .before .before .args .n) (c .before .before .before .before .before .before .before .before .before .before .before .fits-and-ends .ensures) (not-false _ (c .before .before .before .before .before .before .before .before .before .before .if1 .left)) (c .before .before .before .before .before .before .before .before .before .pass-comments .ensures) (c .before .before .before .before .before .before .before .before .cut .ensures) (c .before .before .before .before .before .before .before .if2 .left) (sym (c .before .before .before .before .enum-told .given .1) ∙ c .before .before .before .before .before .before .word-of .ensures .is) (c .before .before .read-values .ensures)
 
 returns-4 : tie.Need-returns-4
-returns-4 c = read-other (c .before .before .before .before .before .before .before .before .before .before .before .args .answer .now) (c .before .before .before .before .before .before .before .before .before .before .before .args .n) (c .before .before .before .before .before .before .before .before .fits-and-ends .ensures) (not-false _ (c .before .before .before .before .before .before .before .if1 .left)) (c .before .before .before .before .before .before .pass-comments .ensures) (c .before .before .before .before .before .cut .ensures) (c .before .before .before .before .if2 .left) (sym (c .before .enum-told2 .given .1) ∙ c .before .before .before .word-of .ensures) (c .read-others .ensures)
+returns-4 c = read-other (c .before .before .before .before .before .before .before .before .before .before .before .args .answer .now) (c .before .before .before .before .before .before .before .before .before .before .before .args .n) (c .before .before .before .before .before .before .before .before .fits-and-ends .ensures) (not-false _ (c .before .before .before .before .before .before .before .if1 .left)) (c .before .before .before .before .before .before .pass-comments .ensures) (c .before .before .before .before .before .cut .ensures) (c .before .before .before .before .if2 .left) (sym (c .before .enum-told2 .given .1) ∙ c .before .before .before .word-of .ensures .is) (c .read-others .ensures)
 
 returns-5 : tie.Need-returns-5
-returns-5 c = read-wordless (c .before .before .before .before .before .before .before .before .before .before .args .answer .now) (c .before .before .before .before .before .before .before .before .before .before .args .n) (c .before .before .before .before .before .before .before .fits-and-ends .ensures) (not-false _ (c .before .before .before .before .before .before .if1 .left)) (c .before .before .before .before .before .pass-comments .ensures) (c .before .before .before .before .cut .ensures) (c .before .before .before .if2 .left) (sym (c .enum-told3 .given .1) ∙ c .before .before .word-of .ensures)
+returns-5 c = read-wordless (c .before .before .before .before .before .before .before .before .before .before .args .answer .now) (c .before .before .before .before .before .before .before .before .before .before .args .n) (c .before .before .before .before .before .before .before .fits-and-ends .ensures) (not-false _ (c .before .before .before .before .before .before .if1 .left)) (c .before .before .before .before .before .pass-comments .ensures) (c .before .before .before .before .cut .ensures) (c .before .before .before .if2 .left) (sym (c .enum-told3 .given .1) ∙ c .before .before .word-of .ensures .is)
 
 pub read-spec : {M : Type 1} → statement M
 read-spec =

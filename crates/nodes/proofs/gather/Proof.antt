@@ -45,7 +45,8 @@ use denote.Triple.Walked.{says, needs, Stays, stay-slice, stay-dropped, walkOf, 
 use denote.Exit.{yes}
 use denote.Signature.{plain, shrSliceOf}
 use Rattle.nodes.specs.declared.Node.{Node}
-use Rattle.nodes.specs.Nodes.{blank, gathered}
+use Rattle.nodes.specs.Nodes.{gathered}
+use Rattle.nodes.specs.Tree.{blank}
 use Rattle.nodes.proofs.Walk.{typeOf, head, after, inside}
 use Rattle.nodes.proofs.Laws.{gathered-none, gathered-more, length-gathered, stored1, stored2, stored3, stored4, length-stored1, length-stored2, length-stored3, length-stored4}
 use Rattle.nodes.proofs.Node as T

@@ -46,7 +46,8 @@ use denote.Triple.Walked.{says, needs, Stays, stay-slice, stay-dropped, walkOf, 
 use denote.Exit.{yes}
 use denote.Signature.{plain, shrSliceOf}
 use Rattle.nodes.specs.declared.Node.{Node}
-use Rattle.nodes.specs.Nodes.{blank, recordAt, laid}
+use Rattle.nodes.specs.Nodes.{recordAt, laid}
+use Rattle.nodes.specs.Tree.{blank}
 use Rattle.nodes.proofs.Walk.{typeOf, head, after, inside}
 use Rattle.nodes.proofs.Laws.{laid-none, laid-more, length-laid}
 use Rattle.nodes.proofs.Node as T

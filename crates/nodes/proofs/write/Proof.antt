@@ -39,7 +39,7 @@ use denote.Triple.Walked.{says, needs, Stays, stay-slice, stay-dropped, walkOf, 
 use denote.Exit.{yes}
 use denote.Signature.{plain}
 use Rattle.nodes.specs.declared.Node.{Node}
-use Rattle.nodes.specs.Nodes.{blank}
+use Rattle.nodes.specs.Tree.{blank}
 use Rattle.nodes.proofs.Node as T
 use Rattle.nodes.proofs.Node.Laws as T′
 use Rattle.nodes.proofs.write.Key.{name as #key}

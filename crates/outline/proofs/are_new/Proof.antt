@@ -5,7 +5,7 @@ use Prim.Native.Nat.{_-_}
 use native.Mathlib.Omega.{arith}
 use Rattle.outline.proofs.Names.{News, news-first, news-out, news-more, news-done}
 use Rattle.lists.proofs.Order.{le-sum, next-le}
-use Rattle.lines.specs.Parts.{linesFrom}
+use Rattle.lines.specs.Cut.{linesFrom}
 
 abbrev Inv-loop : tie.InvT-loop
 Inv-loop s start size lo hi i₀ i = News (linesFrom s 0) lo hi i

@@ -7,7 +7,7 @@ use Rattle.lines.proofs.Lines.{On, on-first, on-line, on-is, on-more}
 use Rattle.outline.proofs.Questions.{Each, each-first, each-out, each-more, each-done, short-yes, short-no, body-size}
 use Rattle.outline.specs.Questions.{short}
 use Rattle.lists.proofs.Order.{le-refl, le-trans, lt-le}
-use Rattle.lines.specs.Parts.{linesFrom}
+use Rattle.lines.specs.Cut.{linesFrom}
 
 abbrev Inv-loop : tie.InvT-loop
 Inv-loop s at n i₀ a₀ i a = On s at i a × Each short (linesFrom s at) n i

@@ -7,7 +7,7 @@ use native.Mathlib.Omega.{arith}
 use lib.Seq.{slice}
 use Rattle.outline.proofs.Names.{Passed, passed-first, passed-hit, passed-more, passed-all}
 use Rattle.lists.proofs.Order.{le-sum}
-use Rattle.lines.specs.Parts.{linesFrom}
+use Rattle.lines.specs.Cut.{linesFrom}
 
 abbrev Inv-loop : tie.InvT-loop
 Inv-loop s start size lo hi a b i₀ i = Passed s (linesFrom s 0) lo hi (slice a b s) i

@@ -5,7 +5,7 @@ use mathlib.Core.List.{List, [], _∷_}
 use Prim.Native.Nat.{ℕ}
 use Rattle.planning.specs.Table.{Task, step, job, Method, Table, noStep}
 use Rattle.planning.specs.Tree.{split, end, height}
-use Rattle.planning.specs.Place.{childCount, childLabel, place, rootPlace, nodes}
+use Rattle.planning.specs.Place.{childCount, childLabel, place}
 use Rattle.planning.specs.Record.{Record, records}
 use Rattle.planning.specs.Text.{bytesUsed, nextLine}
 use Rattle.planning.specs.Marked.{Models, table, by, lift, shown, serveAndLift}
@@ -103,18 +103,6 @@ pair-records = refl
 -- "or 1 where the body is empty"
 pub empty-height : height (split 0 0 end) ≡ 1
 empty-height = refl
-
--- "One method `serve,serve,serve`: depth 5 has 364 nodes, depth 6 has 1,093"
-abbrev threeServes : ℕ → Table
-threeServes depth = table lift (by (job 0 ∷ job 0 ∷ job 0 ∷ []) ∷ []) [] depth
-
-pub three-nodes : nodes (rootPlace (threeServes 5)) ≡ 364
-unfolding place childLabel childCount
-three-nodes = refl
-
-pub three-nodes-deeper : nodes (rootPlace (threeServes 6)) ≡ 1093
-unfolding place childLabel childCount
-three-nodes-deeper = refl
 
 -- the header of the table shown has 10 bytes, and the first clause 4: a buffer takes a line that just fits, and none that does not
 pub just-fits : nextLine shown 0 14 ≡ 2

@@ -28,12 +28,6 @@ pairs-twice (x ∷ xs) = go (length xs) (length (pairs xs)) (length-append (notB
 pub pairs-count : {A : Type 0} (xs : List (ℕ × A)) → length (pairs xs) ≡ length xs * (length xs - 1) / 2
 pairs-count xs = omega (arith, pairs-twice xs)
 
--- (c): one for each job
-pub jobs-count : (T : Table) (methods : List (ℕ × ℕ)) (b : ℕ) (ss js : List ℕ) → length (concatMap (jobClause T methods) (number b (map step ss ++ map job js))) ≡ length js
-jobs-count T methods b [] [] = refl
-jobs-count T methods b [] (j ∷ js) = ap suc (jobs-count T methods (suc b) [] js)
-jobs-count T methods b (s ∷ ss) js = jobs-count T methods (suc b) ss js
-
 -- how many task variables these children have
 abbrev pub widths : List (List (ℕ × Task)) → ℕ
 widths [] = 0

@@ -4,7 +4,7 @@ use mathlib.Core.Path.{_≡_, refl, ap, _∙_, sym}
 use mathlib.Core.List.{List, [], _∷_, _++_}
 use Prim.Native.Nat.{ℕ, suc, _+_, _-_, _≤_, _<_}
 use native.Mathlib.Omega.{arith}
-use lib.ListN.{length, getD, take, drop, length-map, length-append, List·getD-map, take-append-drop}
+use lib.ListN.{length, take, drop, length-map, length-append, take-append-drop}
 use lib.Seq.{drop-drop}
 use Rattle.lists.specs.List.{concat}
 use Rattle.lists.proofs.Bool.{leb-cases}
@@ -18,11 +18,8 @@ use Rattle.planning.specs.Promises.{AsManyAsFit, Call}
 pub lines-count : (T : Table) → length (lines T) ≡ 1 + length (formula T)
 lines-count T = omega (arith, length-map (formula T) clauseLine)
 
-pub line-at : (T : Table) (j : ℕ) → getD (lines T) (suc j) (clauseLine []) ≡ clauseLine (getD (formula T) j [])
-line-at T j = List·getD-map clauseLine (formula T) j []
-
 -- whole lines from the first on
-fitting-first : (n : ℕ) (ls : List (List ℕ)) → fitting n ls ≡ take (length (fitting n ls)) ls
+pub fitting-first : (n : ℕ) (ls : List (List ℕ)) → fitting n ls ≡ take (length (fitting n ls)) ls
 fitting-first n [] = refl
 fitting-first n (l ∷ ls) = leb-cases (fitting n (l ∷ ls) ≡ take (length (fitting n (l ∷ ls))) (l ∷ ls)) (length l) n
     (λ h e. rw e (ap (λ (r : List (List ℕ)). l ∷ r) (fitting-first (n - length l) ls)))
@@ -39,14 +36,14 @@ one-fits n l ls k h a = record {
   no-more = λ q. omega (arith, length-append l (concat (take (suc k) ls)), a .no-more (omega arith));
 }
 
-fitting-most : (n : ℕ) (ls : List (List ℕ)) → AsManyAsFit n ls (length (fitting n ls))
+pub fitting-most : (n : ℕ) (ls : List (List ℕ)) → AsManyAsFit n ls (length (fitting n ls))
 fitting-most n [] = record { there = omega arith; fit = omega arith; no-more = λ q. absurd (omega arith) }
 fitting-most n (l ∷ ls) = leb-cases (AsManyAsFit n (l ∷ ls) (length (fitting n (l ∷ ls)))) (length l) n
     (λ h e. rw e (one-fits n l ls (length (fitting (n - length l) ls)) h (fitting-most (n - length l) ls)))
     (λ h e. rw e (none-fits n l ls h))
 
 -- those that fit, and behind them the rest
-fitting-rest : (n : ℕ) (ls : List (List ℕ)) → concat ls ≡ concat (fitting n ls) ++ concat (drop (length (fitting n ls)) ls)
+pub fitting-rest : (n : ℕ) (ls : List (List ℕ)) → concat ls ≡ concat (fitting n ls) ++ concat (drop (length (fitting n ls)) ls)
 fitting-rest n ls =
     let k = length (fitting n ls) in
     ap concat (sym (take-append-drop k ls))

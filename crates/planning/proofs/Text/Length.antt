@@ -47,7 +47,7 @@ header-length v c h k = omega (
 )
 
 -- where the first line fits, at least one is written
-some-fits : (n : ℕ) (ls : List (List ℕ)) (k : ℕ) → 1 ≤ length ls → length (getD ls 0 []) ≤ n → AsManyAsFit n ls k → 1 ≤ k
+pub some-fits : (n : ℕ) (ls : List (List ℕ)) (k : ℕ) → 1 ≤ length ls → length (getD ls 0 []) ≤ n → AsManyAsFit n ls k → 1 ≤ k
 some-fits n [] k p q a = absurd (omega arith)
 some-fits n (l ∷ ls) zero p q a = absurd (omega (arith, a .no-more (omega arith), length-append l []))
 some-fits n (l ∷ ls) (suc k) p q a = omega arith

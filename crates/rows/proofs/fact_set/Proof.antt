@@ -8,11 +8,12 @@ use Rattle.lists.proofs.Order.{le-trans, falls}
 use Rattle.lines.specs.Parts.{linesOf}
 use Rattle.outline.specs.Sections.{sections}
 use Rattle.outline.specs.Names.{fact, declared}
+use Rattle.rows.specs.Answers.{factWords}
 use Rattle.rows.proofs.FactList.{Listing, listing-first, listing-out, listing-twice, listing-last, listing-more, facts-off, names-hyphen, names-parts}
 use Rattle.rows.proofs.Counts.{count-facts, facts-few, lt-count, le-count}
 
 abbrev Inv-loop : tie.InvT-loop
-Inv-loop s start size h a b w₀ i₀ w i = Listing (declared (sections (linesOf s)) fact) s a b i w
+Inv-loop s start size h a b w₀ i₀ w i = Listing factWords (declared (sections (linesOf s)) fact) s a b i w
 
 abbrev μ-loop : tie.MeasureT-loop
 μ-loop s start size h a b w₀ i₀ w i = b - i
@@ -21,10 +22,10 @@ is-hyphen-requires : tie.Need-is-hyphen-requires Inv-loop μ-loop
 is-hyphen-requires c κs = (c .before .pre .1, c .before .pre .2)
 
 returns : tie.Need-returns Inv-loop μ-loop
-returns c = names-hyphen _ _ _ (facts-few (c .before .before .before .pre .0)) (c .before .is-hyphen .ensures) (c .if1 .taken)
+returns c = names-hyphen factWords _ _ _ (facts-few (c .before .before .before .pre .0)) (c .before .is-hyphen .ensures) (c .if1 .taken)
 
 loop-holds : tie.Need-loop-holds Inv-loop μ-loop
-loop-holds c = listing-first _ _ _ _ (c .before .before .before .pre .1)
+loop-holds c = listing-first factWords _ _ _ _ (c .before .before .before .pre .1)
 
 cut-requires : tie.Need-cut-requires Inv-loop μ-loop
 cut-requires c κs = (c .loop .inv .high, c .before .before .before .before .pre .2)

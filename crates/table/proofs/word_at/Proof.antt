@@ -13,7 +13,7 @@ returns : tie.Need-returns
 returns c = search needs
 
 returns-2 : tie.Need-returns-2
-returns-2 c = let a = c .before .args in past-last (a .a .now) (a .i) (c .if1 .left)
+returns-2 c = let a = c .before .args in past-last (a .words .now) (a .i) (c .if1 .left)
 
 pub word-at-spec : {M : Type 1} → statement M
 word-at-spec = tie.close (tie.spec mul-result shared-slice-read-result returns returns-2)

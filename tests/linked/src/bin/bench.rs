@@ -3,7 +3,7 @@
 
 use linked::clock::{in_turns, shown, Times, Work};
 use linked::{direct, library};
-use planner::calls::{self as second, TEXT_BYTES, TREE_RECORDS, VALUES};
+use planner::calls::{self as second, LISTING_BYTES, TEXT_BYTES, TREE_RECORDS, VALUES};
 use planner::dimacs::answer;
 use planner::formula::formula;
 use planner::make::draft::{Draft, DraftStep};
@@ -20,16 +20,19 @@ fn main() {
         eprintln!("bench: the folder of the crates is wanted");
         std::process::exit(1);
     };
-    let stored = |name: &str| Input::stored(&crates, name);
-    let largest = [stored("formulas/large-wide"), stored("formulas/c313-large-variables-8191"), stored("formulas/c312-large-nodes-1024")];
+    let data = crates.join("stored/data");
+    let stored = |name: &str| Input::stored(&data, name);
+    let largest = ["large-wide", "c313-large-variables-8191", "c312-large-nodes-1024"].map(stored);
+    let answered = [
+        stored("wide").with_answer(&data, "wide.answer"),
+        stored("c313-large-variables-8191").with_answer(&data, "c313-large-variables-8191.a0-right.answer"),
+    ];
     machine();
     whole_formulas(&largest);
     text_calls(&largest[0]);
-    answers(&[
-        stored("procedures/wide").with_answer(&crates, "procedures/wide.answer"),
-        stored("procedures/c313-large-variables-8191").with_answer(&crates, "procedures/c313-large-variables-8191.a0-right.answer"),
-    ]);
-    readings(&[stored("tables/edge-bytes-65536"), stored("formulas/c314-large-bytes-65536"), stored("formulas/large-wide")]);
+    answers(&answered);
+    without_a_tree(&largest, &answered);
+    readings(&["edge-bytes-65536", "c314-large-bytes-65536", "large-wide"].map(stored));
     growth();
 }
 
@@ -40,15 +43,12 @@ struct Input {
 }
 
 impl Input {
-    fn stored(crates: &Path, name: &str) -> Input {
-        let (program, table) = name.split_once('/').expect("a crate and a table");
-        let path = crates.join(program).join("data").join(format!("{table}.tab"));
-        Input { name: table.to_string(), file: read(&path), answer: Vec::new() }
+    fn stored(data: &Path, name: &str) -> Input {
+        Input { name: name.to_string(), file: read(&data.join(format!("{name}.tab"))), answer: Vec::new() }
     }
 
-    fn with_answer(mut self, crates: &Path, name: &str) -> Input {
-        let (program, answer) = name.split_once('/').expect("a crate and an answer");
-        self.answer = read(&crates.join(program).join("data").join(answer));
+    fn with_answer(mut self, data: &Path, name: &str) -> Input {
+        self.answer = read(&data.join(name));
         self
     }
 
@@ -198,6 +198,53 @@ fn answers(inputs: &[Input]) {
             ratio(ours, planner),
         ]);
     }
+}
+
+/// The calls that are lent no tree.
+fn without_a_tree(tables: &[Input], answered: &[Input]) {
+    title("No tree lent", &["call", "table", "bytes written", "call's time", "direct Rust", "ratio", "second planner", "ratio"]);
+    for input in tables {
+        let [mut text, mut wanted] = [vec![0; LARGE_TEXT], vec![0; LARGE_TEXT]];
+        let mut own = Vec::with_capacity(LARGE_TEXT);
+        let [used, _] = library::write_formula(&input.file, 0, &mut text).outcome.expect("accepted");
+        assert_eq!(direct::write_text(&input.file, 0, LARGE_TEXT, &mut own).map(|[used, _]| used), Ok(used));
+        assert_eq!(second::write_formula(&input.file, 0, &mut wanted).map(|(used, _)| used), Ok(used));
+        assert!(text[..used] == own && own == wanted[..used]);
+        let contenders: [Work; 3] = [
+            Box::new(|| _ = black_box(library::write_formula(black_box(&input.file), 0, &mut text))),
+            Box::new(|| _ = black_box(direct::write_text(black_box(&input.file), 0, LARGE_TEXT, &mut own))),
+            Box::new(|| _ = black_box(second::write_formula(black_box(&input.file), 0, &mut wanted))),
+        ];
+        call_row("write_formula", input, used, contenders);
+    }
+    for input in answered {
+        let [mut listing, mut wanted] = [vec![0; LISTING_BYTES], vec![0; LISTING_BYTES]];
+        let mut own = Vec::with_capacity(LISTING_BYTES);
+        let [used] = library::list_answer(&input.file, &input.answer, &mut listing).outcome.expect("taken");
+        assert_eq!(direct::list_answer(&input.file, &input.answer, &mut own), Ok(used));
+        assert_eq!(second::list_answer(&input.file, &input.answer, &mut wanted), Ok(used));
+        assert!(listing[..used] == own && own == wanted[..used]);
+        let contenders: [Work; 3] = [
+            Box::new(|| _ = black_box(library::list_answer(black_box(&input.file), &input.answer, &mut listing))),
+            Box::new(|| _ = black_box(direct::list_answer(black_box(&input.file), &input.answer, &mut own))),
+            Box::new(|| _ = black_box(second::list_answer(black_box(&input.file), &input.answer, &mut wanted))),
+        ];
+        call_row("list_answer", input, used, contenders);
+    }
+}
+
+fn call_row(call: &str, input: &Input, used: usize, mut contenders: [Work; 3]) {
+    let [ours, rust, planner] = &in_turns(&mut contenders)[..] else { unreachable!() };
+    row(&[
+        call.to_string(),
+        input.name.clone(),
+        grouped(used),
+        spread(ours),
+        shown(rust.median()),
+        ratio(ours, rust),
+        shown(planner.median()),
+        ratio(ours, planner),
+    ]);
 }
 
 fn readings(inputs: &[Input]) {

@@ -17,7 +17,6 @@ fn main() -> ExitCode {
     let mut tally = Tally::new(scratch::failed());
     let begun = Instant::now();
     calls::compare(&mut tally, &mut Random::new(seed), 1_000 * number(2, 200) as usize);
-    tally.every_question();
     println!("{:.1} s", begun.elapsed().as_secs_f64());
     tally.verdict()
 }

@@ -65,7 +65,7 @@ impl Copied {
 
 /// A call with what it is lent for reading, and its lengths and other numbers by name.
 pub struct Call<'a> {
-    pub name: &'a str,
+    pub name: &'static str,
     pub file: &'a [u8],
     pub numbers: &'a [(&'a str, usize)],
     pub lent: &'a [(&'a str, Lent<'a>)],
@@ -87,6 +87,7 @@ impl Call<'_> {
         let inputs_after = self.inputs();
         let expected = second(&mut wanted[lent]);
         let number = expected.map_or_else(|refused| refused.0, |_| 0);
+        tally.given_by(self.name, number);
         let inputs_kept = inputs_after == before;
         if called.kept && inputs_kept && after == wanted && called.outcome == expected {
             return tally.case(self.name, number, true, &[]);

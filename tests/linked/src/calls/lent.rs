@@ -1,7 +1,7 @@
 //! What is lent to the calls: trees, values and lengths, right ones and wrong ones.
 
 use planner::answer;
-use planner::calls::{TEXT_BYTES, VALUES};
+use planner::calls::{LISTING_BYTES, TEXT_BYTES, VALUES};
 use planner::formula::{formula, Formula};
 use planner::places::{record, Record};
 use planner::random::Random;
@@ -41,7 +41,7 @@ pub fn random_records(random: &mut Random, count: usize) -> Vec<Record> {
 }
 
 /// The table's own tree, in so many records that held something else before.
-fn own_tree(random: &mut Random, subject: &Subject, records: usize) -> Vec<Record> {
+pub fn own_tree(random: &mut Random, subject: &Subject, records: usize) -> Vec<Record> {
     let mut tree = random_records(random, records);
     tree[..subject.tree.len()].copy_from_slice(&subject.tree);
     tree
@@ -109,6 +109,11 @@ fn lines_of_some_bytes(random: &mut Random, subject: &Subject, first: usize) -> 
         number += 1;
     }
     bytes
+}
+
+/// Most often just long enough.
+pub fn listing_length(random: &mut Random) -> usize {
+    *random.pick(&[LISTING_BYTES, LISTING_BYTES, LISTING_BYTES, LISTING_BYTES + 1, 30_000, LISTING_BYTES - 1, 0])
 }
 
 /// The values that the answer gives, and 0 elsewhere.

@@ -18,7 +18,7 @@ pub fn each(plan: &Plan, skipped: usize, mut pass: impl FnMut(&[i32]) -> bool) -
 }
 
 struct Maker<'a, P> {
-    plan: &'a Plan,
+    plan: &'a Plan<'a>,
     pass: P,
     /// How many clauses are yet to be skipped.
     skip: &'a Cell<usize>,

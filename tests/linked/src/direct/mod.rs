@@ -1,9 +1,10 @@
 //! A planner in Rust that is written for speed, as the baseline to measure against: sets are words, names are looked up by hashing, a clause is
-//! handed on as soon as it is made, and nothing is kept of it. It does what three of the calls do, the same questions among them.
+//! handed on as soon as it is made, and nothing is kept of it. It does what four of the calls do, the same questions among them.
 
 mod answer;
 mod clauses;
 mod counts;
+mod listing;
 mod places;
 mod table;
 mod text;
@@ -29,11 +30,25 @@ pub fn write_text(file: &[u8], line: usize, room: usize, text: &mut Vec<u8>) -> 
     Ok([text.len(), next])
 }
 
+/// The model that an answer gives.
+fn heard(plan: &Plan, reply: &[u8]) -> Outcome<Vec<u8>> {
+    let heard = answer::values(reply, plan.variables)?;
+    question(15, clauses::each(plan, 0, |clause| clause.iter().any(|literal| answer::is_true(&heard, *literal))))?;
+    Ok(heard)
+}
+
+/// The listing of an answer, as a call that lists it writes it: the bytes used.
+pub fn list_answer(file: &[u8], reply: &[u8], listing: &mut Vec<u8>) -> Outcome<usize> {
+    let plan = Plan::of(read(file)?)?;
+    let model = heard(&plan, reply)?;
+    listing.clear();
+    listing::write(&plan, &model, listing);
+    Ok(listing.len())
+}
+
 /// An answer's values, as a call that takes it leaves them.
 pub fn take_answer(file: &[u8], reply: &[u8], values: &mut [u8]) -> Outcome<usize> {
-    let plan = Plan::of(read(file)?)?;
-    let heard = answer::values(reply, plan.variables)?;
-    question(15, clauses::each(&plan, 0, |clause| clause.iter().any(|literal| answer::is_true(&heard, *literal))))?;
+    let heard = heard(&Plan::of(read(file)?)?, reply)?;
     values.get_mut(..heard.len()).ok_or(Refused(1))?.copy_from_slice(&heard);
     Ok(heard.len())
 }
@@ -70,6 +85,10 @@ mod tests {
             let taken = take_answer(&case.table, &case.answer, &mut values);
             assert_eq!(taken, calls::take_answer(&case.table, &tree, &case.answer, &mut wanted));
             assert_eq!(values, wanted);
+            let (mut own, mut listing) = (Vec::new(), vec![7; calls::LISTING_BYTES]);
+            let listed = list_answer(&case.table, &case.answer, &mut own);
+            assert_eq!(listed, calls::list_answer(&case.table, &case.answer, &mut listing));
+            assert_eq!(own, listing[..listed.unwrap_or(0)]);
         }
     }
 }

@@ -5,6 +5,7 @@ use planner::table::Task;
 use planner::{question, Outcome};
 
 pub struct Node {
+    pub depth: usize,
     pub children: Vec<usize>,
     pub steps: u64,
     /// None at a slot.
@@ -15,8 +16,8 @@ pub struct Node {
     pub first: i32,
 }
 
-pub struct Plan {
-    pub table: Table,
+pub struct Plan<'a> {
+    pub table: Table<'a>,
     pub nodes: Vec<Node>,
     pub variables: usize,
     /// The first fact variable.
@@ -65,8 +66,8 @@ pub fn members(mut set: u64) -> impl Iterator<Item = usize> {
     })
 }
 
-impl Plan {
-    pub fn of(table: Table) -> Outcome<Plan> {
+impl<'a> Plan<'a> {
+    pub fn of(table: Table<'a>) -> Outcome<Plan<'a>> {
         let mut plan = Plan { table, nodes: Vec::new(), variables: 0, first_fact: 1 };
         let root = 1 << plan.table.root;
         plan.grow(0, 0, root)?;
@@ -82,7 +83,7 @@ impl Plan {
         let inner = jobs != 0 && depth < self.table.depth;
         let jobs = if inner { jobs } else { 0 };
         let methods: Vec<usize> = (0..self.table.methods.len()).filter(|method| jobs >> self.table.methods[*method].job & 1 == 1).collect();
-        let node = Node { children: Vec::new(), steps, jobs, methods, inner, first: self.first_fact };
+        let node = Node { depth, children: Vec::new(), steps, jobs, methods, inner, first: self.first_fact };
         self.first_fact += node.tasks() + node.methods.len() as i32;
         self.nodes.push(node);
         if inner {

@@ -15,9 +15,11 @@ pub struct Method {
     pub body: Vec<Task>,
 }
 
-pub struct Table {
+pub struct Table<'a> {
     pub facts: usize,
     pub steps: Vec<Step>,
+    /// The names of the steps and behind them those of the jobs, where they stand in the file.
+    pub tasks: Vec<&'a [u8]>,
     pub methods: Vec<Method>,
     pub start: u64,
     pub root: usize,
@@ -27,7 +29,7 @@ pub struct Table {
 /// The fields behind a line's letter.
 type Fields<'a> = [&'a [u8]; 4];
 
-pub fn read(file: &[u8]) -> Outcome<Table> {
+pub fn read(file: &[u8]) -> Outcome<Table<'_>> {
     question(2, file.len() <= 65_536 && file.last() == Some(&b'\n'))?;
     let mut lines: Vec<(u8, Fields)> = Vec::new();
     for line in file[..file.len() - 1].split(|byte| *byte == b'\n') {
@@ -102,7 +104,7 @@ fn declared<'a>(lines: &[(u8, Fields<'a>)]) -> Option<HashMap<&'a [u8], usize>> 
     Some(names)
 }
 
-fn look_up(lines: &[(u8, Fields)], often: [usize; 6], names: &HashMap<&[u8], usize>) -> Option<Table> {
+fn look_up<'a>(lines: &[(u8, Fields<'a>)], often: [usize; 6], names: &HashMap<&[u8], usize>) -> Option<Table<'a>> {
     let [facts, steps, ..] = often;
     let fact = |name: &[u8]| names.get(name).copied().filter(|place| *place < facts);
     let task = |name: &[u8]| match names.get(name)?.checked_sub(facts)? {
@@ -119,10 +121,14 @@ fn look_up(lines: &[(u8, Fields)], often: [usize; 6], names: &HashMap<&[u8], usi
             (set & member == 0).then_some(set | member)
         })
     };
-    let mut table = Table { facts, steps: Vec::new(), methods: Vec::new(), start: 0, root: 0, depth: 0 };
+    let mut table = Table { facts, steps: Vec::new(), tasks: Vec::new(), methods: Vec::new(), start: 0, root: 0, depth: 0 };
     for (letter, fields) in lines {
         match letter {
-            b'S' => table.steps.push(Step { needs: fact_set(fields[1])?, sets: fact_set(fields[2])?, clears: fact_set(fields[3])? }),
+            b'S' => {
+                table.steps.push(Step { needs: fact_set(fields[1])?, sets: fact_set(fields[2])?, clears: fact_set(fields[3])? });
+                table.tasks.push(fields[0]);
+            }
+            b'T' => table.tasks.push(fields[0]),
             b'M' => table.methods.push(Method { job: job(fields[0])?, body: list(fields[1]).map(task).collect::<Option<_>>()? }),
             b'I' => table.start = fact_set(fields[0])?,
             b'R' => {

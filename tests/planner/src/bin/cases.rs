@@ -1,10 +1,10 @@
-//! Writes random cases as the crates `formulas` and `procedures` store theirs: `cases FOLDER SEED TABLES [MOST]`, with a folder for both, a
-//! seed, how many tables each gets, and how many bytes a file may have. `rt try` then holds a program to them without a proof, so that a
-//! broken copy of a crate can be tried.
+//! Writes random cases as the crate `stored` stores its own: `cases FOLDER SEED TABLES [MOST]`, with the folder of the crate, a seed, how
+//! many tables there are with and without an answer, and how many bytes a file may have. `rt try` then holds the program to them without a
+//! proof, so that a broken copy of a crate can be tried.
 
 use planner::make::cases::{answer_case, table_case};
 use planner::random::Random;
-use planner::runs::batch::{add_formula_lines, add_procedure_lines, Batch};
+use planner::runs::batch::{add_answer_lines, add_table_lines, Batch};
 use std::path::Path;
 use std::process::ExitCode;
 
@@ -12,26 +12,15 @@ fn number(place: usize, otherwise: u64) -> u64 {
     std::env::args().nth(place).and_then(|argument| argument.parse().ok()).unwrap_or(otherwise)
 }
 
-fn formulas(random: &mut Random, tables: usize, most: usize) -> Batch {
-    let mut batch = Batch::new(Path::new("formulas"));
+/// So many tables, of which none has more bytes, nor has an answer.
+fn batch(random: &mut Random, tables: usize, most: usize) -> Batch {
+    let mut batch = Batch::new(Path::new("stored"));
     let mut added = 0;
     while added < tables && !batch.is_full() {
-        let case = table_case(random);
-        if case.table.len() <= most {
-            add_formula_lines(random, &mut batch, &case);
-            added += 1;
-        }
-    }
-    batch
-}
-
-fn procedures(random: &mut Random, tables: usize, most: usize) -> Batch {
-    let mut batch = Batch::new(Path::new("procedures"));
-    let mut added = 0;
-    while added < tables && !batch.is_full() {
-        let case = answer_case(random);
-        if case.table.len() <= most && case.answer.len() <= most {
-            add_procedure_lines(random, &mut batch, &case);
+        let (table, answer) = (table_case(random), answer_case(random));
+        if table.table.len() <= most && answer.table.len() <= most && answer.answer.len() <= most {
+            add_table_lines(random, &mut batch, &table.table);
+            add_answer_lines(random, &mut batch, &answer);
             added += 1;
         }
     }
@@ -44,12 +33,8 @@ fn main() -> ExitCode {
         return ExitCode::FAILURE;
     };
     let mut random = Random::new(number(2, 1));
-    let (tables, most) = (number(3, 100) as usize, number(4, 100_000) as usize);
-    let folder = Path::new(&folder);
-    let stored = formulas(&mut random, tables, most)
-        .store(&folder.join("formulas"))
-        .and_then(|()| procedures(&mut random, tables, most).store(&folder.join("procedures")));
-    match stored {
+    let batch = batch(&mut random, number(3, 100) as usize, number(4, 100_000) as usize);
+    match batch.store(Path::new(&folder)) {
         Ok(()) => ExitCode::SUCCESS,
         Err(error) => {
             eprintln!("cases: {error}");

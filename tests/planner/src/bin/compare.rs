@@ -1,10 +1,10 @@
 //! Holds the compiled programs to the second planner: `compare FOLDER [SEED] [HUNDREDS]`, with the folder of the programs, a seed for the
-//! cases, and how many hundreds of cases go through processes of their own. Five times as many go through the calls, and half as many
-//! tables are taken for models and trees. Failing cases are saved.
+//! cases, and how many hundreds of cases go through processes of their own. Five times as many go through what is below the programs, and
+//! half as many tables are taken for models and trees. Failing cases are saved.
 
 use planner::random::Random;
 use planner::runs::programs::Programs;
-use planner::runs::{batch, models, programs, scratch, Tally};
+use planner::runs::{batch, models, programs, scratch, streams, Tally};
 use std::process::ExitCode;
 use std::time::Instant;
 
@@ -28,9 +28,9 @@ fn main() -> ExitCode {
     let begun = Instant::now();
     programs::limits(&mut tally, &mut random, &programs);
     programs::compare(&mut tally, &mut random, &programs, cases);
+    streams::compare(&mut tally, &mut random, &programs);
     batch::compare(&mut tally, &mut random, &programs, 5 * cases);
     models::compare(&mut tally, &mut random, &programs, cases / 2);
-    tally.every_question();
     println!("{:.1} s", begun.elapsed().as_secs_f64());
     let _ = std::fs::remove_dir_all(&scratch);
     tally.verdict()

@@ -7,6 +7,7 @@ use super::limits::{Limit, LIMITS};
 use super::tables::{large, middle, small};
 use super::Draft;
 use crate::dimacs::Cnf;
+use crate::files::{answers_turned_down, tables_turned_down, EXAMPLE, EXAMPLE_ANSWER};
 use crate::formula::{formula, Formula};
 use crate::random::Random;
 use crate::search::models;
@@ -23,6 +24,20 @@ pub struct AnswerCase {
     pub table: Vec<u8>,
     pub answer: Vec<u8>,
     pub meant: Option<u32>,
+}
+
+/// The example, and a table or an answer for each question that can turn one down.
+pub fn each_question() -> Vec<AnswerCase> {
+    let case = |number: u32, table: &str, answer: &str| AnswerCase {
+        name: format!("for question {number}"),
+        table: table.as_bytes().to_vec(),
+        answer: answer.as_bytes().to_vec(),
+        meant: Some(number),
+    };
+    let mut cases = vec![case(0, EXAMPLE, EXAMPLE_ANSWER)];
+    cases.extend(tables_turned_down().iter().map(|(number, table)| case(*number, table, EXAMPLE_ANSWER)));
+    cases.extend(answers_turned_down().iter().map(|(number, answer)| case(*number, EXAMPLE, answer)));
+    cases
 }
 
 // Tables

@@ -1,22 +1,31 @@
-//! Cases through the five calls, thousands in one process: the programs `formulas` and `procedures` take an index of cases in the working
-//! directory, and what they print is held to what the second planner's calls give.
+//! Cases through the program `stored`, thousands in one process: it takes an index of cases in the working directory, and what it prints is
+//! held to the second planner.
 
-use super::drivers::*;
+use super::kinds::{number, printed, Kind};
 use super::programs::Programs;
 use super::Tally;
-use crate::make::cases::{answer_case, table_case, AnswerCase, TableCase};
+use crate::calls::{check, LISTING_BYTES, TEXT_BYTES};
+use crate::make::cases::{answer_case, each_question, table_case, AnswerCase};
 use crate::outside::run_with_file;
 use crate::random::Random;
 use std::path::{Path, PathBuf};
 use std::rc::Rc;
 
-/// The index buffer of the programs has 65,536 bytes.
+/// How long an index the program takes.
+pub const INDEX_ROOM: usize = 262_144;
+
+/// So long that a batch has some thousands of cases.
 const MOST_INDEX_BYTES: usize = 60_000;
 
-type File = (String, Rc<Vec<u8>>);
+/// More clauses are not written out, but told by their checksum.
+const MOST_CLAUSES_WRITTEN: usize = 2_000;
+
+/// A file by its name.
+pub type File = (String, Rc<Vec<u8>>);
 
 /// A line of an index, what is to be printed for it, and the files that it names.
 pub struct Case {
+    pub kind: Kind,
     pub line: String,
     pub expected: Vec<u8>,
     pub number: u32,
@@ -24,13 +33,22 @@ pub struct Case {
 }
 
 impl Case {
-    pub fn new(line: String, files: Vec<File>, printed: Printed) -> Case {
-        let expected = [line.as_bytes(), &printed.text].concat();
-        Case { line, expected, number: printed.number, files }
+    pub fn new(kind: Kind, table: File, answer: Option<File>, numbers: &[usize]) -> Case {
+        let mut fields = vec![kind.word().to_string(), table.0.clone()];
+        if answer.is_some() || !numbers.is_empty() {
+            fields.push(answer.as_ref().map_or("-".to_string(), |answer| answer.0.clone()));
+        }
+        fields.extend(numbers.iter().map(usize::to_string));
+        let line = fields.join("\t");
+        let at = |place: usize| numbers.get(place).copied().unwrap_or(0);
+        let reply = answer.as_ref().map_or(&[][..], |answer| &answer.1);
+        let text = printed(kind, &table.1, reply, [at(0), at(1)]);
+        let expected = format!("{line}\n{text}").into_bytes();
+        Case { kind, line, expected, number: number(kind, &table.1, &text), files: [table].into_iter().chain(answer).collect() }
     }
 }
 
-/// Cases that wait for one run of a program.
+/// Cases that wait for one run of the program.
 pub struct Batch {
     program: PathBuf,
     files: usize,
@@ -49,17 +67,10 @@ impl Batch {
         (format!("f{}", self.files), Rc::new(bytes.to_vec()))
     }
 
-    /// A line of the kind, with the files and the numbers behind them.
-    pub fn add(&mut self, kind: &str, files: &[File], numbers: &[usize], printed: Printed) {
-        let mut fields = vec![kind.to_string()];
-        fields.extend(files.iter().map(|(name, _)| name.clone()));
-        if kind == "all" {
-            fields.push("-".to_string());
-        }
-        fields.extend(numbers.iter().map(usize::to_string));
-        let line = fields.join("\t");
-        self.index_bytes += line.len() + 1;
-        self.cases.push(Case::new(line, files.to_vec(), printed));
+    pub fn add(&mut self, kind: Kind, table: &File, answer: Option<&File>, numbers: &[usize]) {
+        let case = Case::new(kind, table.clone(), answer.cloned(), numbers);
+        self.index_bytes += case.line.len() + 1;
+        self.cases.push(case);
     }
 
     pub fn is_full(&self) -> bool {
@@ -70,39 +81,44 @@ impl Batch {
     pub fn store(&self, folder: &Path) -> std::io::Result<()> {
         let data = folder.join("data");
         std::fs::create_dir_all(&data)?;
-        for (name, bytes) in self.cases.iter().flat_map(|case| &case.files) {
-            std::fs::write(data.join(name), &bytes[..])?;
-        }
-        std::fs::write(data.join("index"), self.index())?;
-        let expected: Vec<u8> = self.cases.iter().flat_map(|case| case.expected.clone()).collect();
-        std::fs::write(folder.join("stdout"), expected)
+        self.write_files(&data)?;
+        std::fs::write(folder.join("stdout"), expected(&self.cases))
     }
 
-    fn index(&self) -> String {
-        self.cases.iter().map(|case| case.line.clone() + "\n").collect()
+    fn write_files(&self, folder: &Path) -> std::io::Result<()> {
+        for (name, bytes) in self.cases.iter().flat_map(|case| &case.files) {
+            std::fs::write(folder.join(name), &bytes[..])?;
+        }
+        let index: String = self.cases.iter().map(|case| case.line.clone() + "\n").collect();
+        assert!(index.len() < INDEX_ROOM, "an index that the program takes whole");
+        std::fs::write(folder.join("index"), index)
     }
 
     /// Runs what waits and counts it; hands back what was printed.
     pub fn run(&mut self, tally: &mut Tally) -> Vec<u8> {
-        for (name, bytes) in self.cases.iter().flat_map(|case| &case.files) {
-            std::fs::write(name, &bytes[..]).expect("the scratch folder takes files");
-        }
-        let index = self.index();
-        assert!(index.len() <= 65_536, "an index that the program takes whole");
-        std::fs::write("index", index).expect("the scratch folder takes files");
+        self.write_files(Path::new(".")).expect("the scratch folder takes files");
         let wrote = run_with_file(&self.program, &[], Path::new("/dev/null")).expect("the program runs");
-        count(tally, &self.cases, &wrote.output);
+        let output = [wrote.output, wrote.error].concat();
+        count(tally, &self.cases, &output);
         *self = Batch::new(&self.program);
-        wrote.output
+        output
     }
+}
+
+/// All that is to be printed for these cases.
+pub fn expected(cases: &[Case]) -> Vec<u8> {
+    cases.iter().flat_map(|case| case.expected.clone()).collect()
 }
 
 /// Counts cases by what was printed for all of them.
 pub fn count(tally: &mut Tally, cases: &[Case], output: &[u8]) {
     let mut rest = output;
     for (place, case) in cases.iter().enumerate() {
-        let next = cases.get(place + 1).map(|next| next.line.as_str());
-        let end = if rest.starts_with(&case.expected) { case.expected.len() } else { end_of_case(rest, next) };
+        let end = match cases.get(place + 1) {
+            Some(_) if rest.starts_with(&case.expected) => case.expected.len(),
+            Some(next) => end_of_case(rest, &next.line),
+            None => rest.len(),
+        };
         let (printed, behind) = rest.split_at(end);
         rest = behind;
         count_case(tally, case, printed);
@@ -112,86 +128,71 @@ pub fn count(tally: &mut Tally, cases: &[Case], output: &[u8]) {
 fn count_case(tally: &mut Tally, case: &Case, printed: &[u8]) {
     let mut files: Vec<(&str, &[u8])> = case.files.iter().map(|(name, bytes)| (name.as_str(), &bytes[..])).collect();
     files.extend([("index", case.line.as_bytes()), ("expected", &case.expected), ("written", printed)]);
+    tally.given_by(case.kind.word(), case.number);
     tally.case(&case.line, case.number, printed == case.expected, &files);
 }
 
 /// Where a case's output ends: before the next case's line, or at the end.
-fn end_of_case(output: &[u8], next: Option<&str>) -> usize {
-    let Some(next) = next else { return output.len() };
+fn end_of_case(output: &[u8], next: &str) -> usize {
     let mark = [b"\n", next.as_bytes()].concat();
     output.windows(mark.len()).position(|window| window == mark).map_or(output.len(), |place| place + 1)
 }
 
-// The cases
+/// The cases of each kind come to every question that can turn one down, and to none.
+pub fn every_number(tally: &mut Tally) {
+    for kind in Kind::ALL {
+        tally.gives(kind.word(), &kind.numbers());
+    }
+}
+
+// Random cases
 
 pub fn compare(tally: &mut Tally, random: &mut Random, programs: &Programs, cases: usize) {
     let mut counted = 0;
-    let mut formulas = Batch::new(&programs.formulas);
-    let mut procedures = Batch::new(&programs.procedures);
+    let mut batch = Batch::new(&programs.stored);
+    for case in each_question() {
+        counted += add_table_lines(random, &mut batch, &case.table) + add_answer_lines(random, &mut batch, &case);
+    }
     while counted < cases {
-        counted += formula_lines(random, &mut formulas) + procedure_lines(random, &mut procedures);
-        for batch in [&mut formulas, &mut procedures] {
-            if batch.is_full() || counted >= cases {
-                batch.run(tally);
-            }
+        let (table, answer) = (table_case(random), answer_case(random));
+        counted += add_table_lines(random, &mut batch, &table.table) + add_answer_lines(random, &mut batch, &answer);
+        if batch.is_full() || counted >= cases {
+            batch.run(tally);
         }
     }
-    tally.print_given("the five calls");
+    tally.print_given("what is below the programs");
+    every_number(tally);
 }
 
-/// All kinds of lines for one table; how many.
-fn formula_lines(random: &mut Random, batch: &mut Batch) -> usize {
-    let case = table_case(random);
-    add_formula_lines(random, batch, &case)
-}
-
-pub fn add_formula_lines(random: &mut Random, batch: &mut Batch, case: &TableCase) -> usize {
-    let table = case.table.clone();
-    let files = [batch.file(&table)];
+/// Lines of every kind that wants no answer; how many.
+pub fn add_table_lines(random: &mut Random, batch: &mut Batch, file: &[u8]) -> usize {
+    let table = batch.file(file);
     let before = batch.cases.len();
-    let (nodes, _, clauses) = crate::calls::check(&table).unwrap_or((1, 1, 9));
-    batch.add("check", &files, &[], check_line(&table));
-    batch.add("build", &files, &[], build_line(&table));
-    let lines = [0, clauses, clauses + 1, random.below(clauses + 1), random.below(clauses + 1), usize::MAX - random.below(3)];
+    let (_, _, clauses) = check(file).unwrap_or((1, 1, 9));
+    batch.add(Kind::Read, &table, None, &[]);
+    batch.add(Kind::Check, &table, None, &[]);
+    let lines = [clauses, clauses + 1, random.below(clauses + 1), random.below(clauses + 1), usize::MAX - random.below(3)];
+    batch.add(Kind::Text, &table, None, &[0, TEXT_BYTES]);
     for line in lines {
-        let length = *random.pick(&[0, 1, 1_023, 1_024, 1_024, 1_025, 1_026, 1_100, 2_048, 65_536]);
-        batch.add("call", &files, &[line, length], call_line(&table, line, length));
+        let length = *random.pick(&[0, 1, 1_023, TEXT_BYTES, TEXT_BYTES, 1_025, 1_026, 1_100, 2_048, 65_536]);
+        batch.add(Kind::Text, &table, None, &[line, length]);
     }
-    for _ in 0..2 {
-        let place = random.below(nodes * 5 + 5);
-        let line = random.below(clauses + 2);
-        batch.add("tree", &files, &[place, line], changed_tree_line(&table, place, line));
+    let length = if clauses > 10_000 { 65_536 } else { *random.pick(&[TEXT_BYTES, 1_025, 1_060, 1_500, 4_096, 65_536]) };
+    batch.add(Kind::Whole, &table, None, &[length]);
+    if clauses <= MOST_CLAUSES_WRITTEN {
+        let room = *random.pick(&[0, TEXT_BYTES, 1_025, 1_060, 1_500, 4_096, 1_048_576, usize::MAX]);
+        batch.add(Kind::Formula, &table, None, &[room]);
     }
-    let words = *random.pick(&[0, 5, 5_115, 5_119, 5_120, 5_121, 5_130]);
-    batch.add("short", &files, &[words], short_line(&table, words));
-    let length = if clauses > 10_000 { 65_536 } else { *random.pick(&[1_024, 1_025, 1_060, 1_500, 4_096, 65_536]) };
-    batch.add("whole", &files, &[length], whole_line(&table, length));
     batch.cases.len() - before
 }
 
-fn procedure_lines(random: &mut Random, batch: &mut Batch) -> usize {
-    let case = answer_case(random);
-    add_procedure_lines(random, batch, &case)
-}
-
-pub fn add_procedure_lines(random: &mut Random, batch: &mut Batch, case: &AnswerCase) -> usize {
-    let (table, answer) = (&case.table, &case.answer);
-    let files = [batch.file(table), batch.file(answer)];
+/// Lines of the kinds that want an answer; how many.
+pub fn add_answer_lines(random: &mut Random, batch: &mut Batch, case: &AnswerCase) -> usize {
+    let (table, answer) = (batch.file(&case.table), batch.file(&case.answer));
     let before = batch.cases.len();
-    let (nodes, variables, _) = crate::calls::check(table).unwrap_or((1, 1, 1));
-    batch.add("plan", &files, &[], plan_line(table, answer));
-    let words = *random.pick(&[0, 5_119, 5_120, 5_120, 5_120, 5_121]);
-    let bytes = *random.pick(&[0, 8_190, 8_191, 8_191, 8_191, 8_192]);
-    let length = *random.pick(&[0, 24_575, 24_576, 24_576, 24_576, 24_577]);
-    batch.add("room", &files, &[words, bytes, length], room_line(table, answer, words, bytes, length));
-    let place = random.below(nodes * 5 + 5);
-    batch.add("tree", &files, &[place], answer_tree_line(table, answer, place));
-    for _ in 0..2 {
-        let place = random.between(0, variables + 2);
-        let value = *random.pick(&[0, 1, 2, 3, 7, 128, 255]);
-        batch.add("value", &files, &[place, value], value_line(table, answer, place, value));
+    batch.add(Kind::Procedure, &table, Some(&answer), &[]);
+    for length in [LISTING_BYTES, *random.pick(&[0, LISTING_BYTES - 1, LISTING_BYTES + 1, LISTING_BYTES + 24, LISTING_BYTES + 25])] {
+        batch.add(Kind::List, &table, Some(&answer), &[length]);
     }
-    let value = *random.pick(&[0, 1, 2]);
-    batch.add("all", &files[..1], &[value], all_line(table, value));
     batch.cases.len() - before
 }

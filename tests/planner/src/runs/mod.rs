@@ -1,11 +1,13 @@
 //! The runs: cases through the compiled programs, the calls and public solvers, counted.
 
 pub mod batch;
-pub mod drivers;
+pub mod edits;
+pub mod kinds;
 pub mod models;
 pub mod programs;
 pub mod scratch;
 pub mod solvers;
+pub mod streams;
 pub mod tally;
 pub mod witness;
 

@@ -1,8 +1,8 @@
-//! Models and trees: for each of thousands of small tables, all models of the formula that the program `formula` wrote, each listed by the
-//! calls of the crates, against the trees that brute force finds in the table alone. They must match one to one.
+//! Models and trees: for each of thousands of small tables, all models of the formula that the program `formula` wrote, each listed as the
+//! program `procedure` lists it, against the trees that brute force finds in the table alone. They must match one to one.
 
 use super::batch::Batch;
-use super::drivers::plan_line;
+use super::kinds::Kind;
 use super::programs::Programs;
 use super::Tally;
 use crate::brute::procedures;
@@ -80,12 +80,11 @@ fn listings_of_models(tally: &mut Tally, programs: &Programs, file: &[u8], formu
     if found.spent {
         return None;
     }
-    let mut batch = Batch::new(&programs.procedures);
+    let mut batch = Batch::new(&programs.stored);
     let table = batch.file(file);
     for model in &found.models {
-        let answer = answer(model);
-        let files = [table.clone(), batch.file(answer.as_bytes())];
-        batch.add("plan", &files, &[], plan_line(file, answer.as_bytes()));
+        let answer = batch.file(answer(model).as_bytes());
+        batch.add(Kind::Procedure, &table, Some(&answer), &[]);
     }
     if found.models.is_empty() {
         return Some(Vec::new());
@@ -93,11 +92,11 @@ fn listings_of_models(tally: &mut Tally, programs: &Programs, file: &[u8], formu
     Some(listings(&String::from_utf8_lossy(&batch.run(tally))))
 }
 
-/// The listings behind each line `plan`.
+/// The listings, each behind the line of its case.
 fn listings(output: &str) -> Vec<String> {
     let mut listings: Vec<String> = Vec::new();
     for line in output.lines() {
-        if line.starts_with("plan\t") {
+        if line.starts_with("procedure\t") {
             listings.push(String::new());
         } else if let Some(last) = listings.last_mut() {
             *last += &format!("{line}\n");

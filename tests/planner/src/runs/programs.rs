@@ -1,8 +1,9 @@
 //! Cases through the programs `formula` and `procedure`, a process each. The working directory is a scratch folder.
 
+use super::kinds::Kind;
 use super::Tally;
-use crate::files::{EXAMPLE, EXAMPLE_ANSWER, EXAMPLE_LISTING};
-use crate::make::cases::{answer_case, at_limit, past_limit, table_case, AnswerCase, TableCase};
+use crate::files::{tables_turned_down, EXAMPLE, EXAMPLE_ANSWER, EXAMPLE_LISTING};
+use crate::make::cases::{answer_case, at_limit, each_question, past_limit, table_case, AnswerCase, TableCase};
 use crate::make::limits::LIMITS;
 use crate::outside::run_with_file;
 use crate::programs::{formula_writes, number_written, procedure_writes};
@@ -10,18 +11,21 @@ use crate::random::Random;
 use std::fs::write;
 use std::path::{Path, PathBuf};
 
+const FORMULA: &str = "the program formula";
+const PROCEDURE: &str = "the program procedure";
+
 /// Where the compiled programs are.
 pub struct Programs {
     pub formula: PathBuf,
     pub procedure: PathBuf,
-    pub formulas: PathBuf,
-    pub procedures: PathBuf,
+    /// Runs what is below the two on an index of cases.
+    pub stored: PathBuf,
 }
 
 impl Programs {
     pub fn of(folder: &Path) -> Programs {
         let at = |name| folder.join(name);
-        Programs { formula: at("formula"), procedure: at("procedure"), formulas: at("formulas"), procedures: at("procedures") }
+        Programs { formula: at("formula"), procedure: at("procedure"), stored: at("stored") }
     }
 
     pub fn write_formula(&self, table: &[u8]) -> Vec<u8> {
@@ -39,12 +43,24 @@ impl Programs {
 }
 
 pub fn compare(tally: &mut Tally, random: &mut Random, programs: &Programs, cases: usize) {
+    for case in each_question() {
+        procedure_case(tally, programs, &case);
+    }
+    for (number, table) in tables_turned_down() {
+        formula_case(
+            tally,
+            programs,
+            &TableCase { name: format!("for question {number}"), table: table.into_bytes(), meant: Some(number) },
+        );
+    }
     for _ in 0..cases / 2 {
         formula_case(tally, programs, &table_case(random));
         procedure_case(tally, programs, &answer_case(random));
     }
     files_that_are_not_there(tally, programs);
     tally.print_given("programs formula and procedure");
+    tally.gives(FORMULA, &Kind::Formula.numbers());
+    tally.gives(PROCEDURE, &Kind::Procedure.numbers());
 }
 
 /// Every limit, and one past it, three times each.
@@ -62,6 +78,7 @@ pub fn formula_case(tally: &mut Tally, programs: &Programs, case: &TableCase) {
     let written = programs.write_formula(&case.table);
     let number = number_written(expected.as_bytes());
     let passes = written == expected.as_bytes() && case.meant.is_none_or(|meant| meant == number);
+    tally.given_by(FORMULA, number);
     tally.case(
         &format!("formula, {}", case.name),
         number,
@@ -75,6 +92,7 @@ pub fn procedure_case(tally: &mut Tally, programs: &Programs, case: &AnswerCase)
     let written = programs.list_procedure(&case.table, &case.answer);
     let number = number_written(expected.as_bytes());
     let passes = written == expected.as_bytes() && case.meant.is_none_or(|meant| meant == number);
+    tally.given_by(PROCEDURE, number);
     tally.case(
         &format!("procedure, {}", case.name),
         number,

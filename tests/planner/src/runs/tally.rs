@@ -10,19 +10,28 @@ pub struct Tally {
     pub passed: usize,
     pub failed: usize,
     given: BTreeMap<u32, usize>,
-    given_ever: BTreeSet<u32>,
+    /// By what the cases went through.
+    given_by: BTreeMap<&'static str, BTreeSet<u32>>,
     saved_in: PathBuf,
 }
 
 impl Tally {
     pub fn new(saved_in: PathBuf) -> Tally {
-        Tally { passed: 0, failed: 0, given: BTreeMap::new(), given_ever: BTreeSet::new(), saved_in }
+        Tally { passed: 0, failed: 0, given: BTreeMap::new(), given_by: BTreeMap::new(), saved_in }
     }
 
     /// A case with the number that the second planner gives it and the files that show it, in case it fails.
     pub fn case(&mut self, name: &str, number: u32, passes: bool, files: &[(&str, &[u8])]) {
         *self.given.entry(number).or_default() += 1;
-        self.given_ever.insert(number);
+        self.count(name, passes, files);
+    }
+
+    /// What holds of a run as a whole.
+    pub fn holds(&mut self, name: &str, passes: bool) {
+        self.count(name, passes, &[]);
+    }
+
+    fn count(&mut self, name: &str, passes: bool, files: &[(&str, &[u8])]) {
         if passes {
             self.passed += 1;
         } else {
@@ -51,11 +60,16 @@ impl Tally {
         self.given.clear();
     }
 
-    /// A run that never came to one of the questions has not put it.
-    pub fn every_question(&mut self) {
-        let missing: Vec<String> =
-            (1..=15).filter(|number| !self.given_ever.contains(number)).map(|number: u32| number.to_string()).collect();
-        self.case(&format!("questions that no case came to: {}", missing.join(", ")), 0, missing.is_empty(), &[]);
+    /// A case went through this and was given the number.
+    pub fn given_by(&mut self, what: &'static str, number: u32) {
+        self.given_by.entry(what).or_default().insert(number);
+    }
+
+    /// The cases through this were given these numbers, and no others. A run that never came to one of the questions has not put it.
+    pub fn gives(&mut self, what: &'static str, numbers: &[u32]) {
+        let wanted: BTreeSet<u32> = numbers.iter().copied().collect();
+        let given = self.given_by.remove(what).unwrap_or_default();
+        self.holds(&format!("{what} gives the numbers {given:?}, not {wanted:?}"), given == wanted);
     }
 
     /// The last line of a run and its exit status.

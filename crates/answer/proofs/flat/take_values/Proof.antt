@@ -7,7 +7,8 @@ use lib.Seq.{length-take-le}
 use Rattle.lists.proofs.Written.{wrote-whole}
 use Rattle.nodes.specs.Nodes.{recordsIn}
 use Rattle.sheet.specs.Sheet.{tableIn}
-use Rattle.answer.proofs.Taking.{other-tree, not-heard, not-model, took, heard-by, copy-room}
+use Rattle.answer.proofs.Answered.{heard-by}
+use Rattle.answer.proofs.Taking.{other-tree, not-heard, not-model, took, copy-room}
 
 slice-aggregate-place : tie.Need-slice-aggregate-place
 slice-aggregate-place c = search needs

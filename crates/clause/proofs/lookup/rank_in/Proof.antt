@@ -2,6 +2,7 @@
 -- Assumes nothing.
 use Rattle.clause.proofs.lookup.rank_in.Tie as tie
 use borrow.Author.Needs.{needs}
+use mathlib.Core.List.{[], _∷_}
 use Rattle.clause.proofs.Known.{rank-is}
 use Rattle.clause.proofs.lookup.rank_in.Statement.{statement}
 
@@ -12,7 +13,7 @@ rank-requires : tie.Need-rank-requires
 rank-requires c κs = search needs
 
 returns : tie.Need-returns
-returns c = let s = c .before .before in rank-is (s .args .w) (s .args .i) (c .rank .ensures)
+returns c = let s = c .before .before in rank-is (s .args .w ∷ []) (s .args .i) (c .rank .ensures)
 
 pub rank-in-spec : {M : Type 1} → statement M
 rank-in-spec = tie.close (tie.spec slice-aggregate-rank rank-requires returns)
