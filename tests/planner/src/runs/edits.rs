@@ -20,9 +20,10 @@ pub struct Fault {
 }
 
 impl Fault {
-    /// Is it in code alone, and not in a definition?
+    /// Is it in code alone, and not in a definition or a contract, of which an equality is a part?
     pub fn is_of_code(&self) -> bool {
-        self.replacements.iter().all(|replacement| replacement.file.components().any(|part| part.as_os_str() == "src"))
+        let in_src = |replacement: &Replacement| replacement.file.components().any(|part| part.as_os_str() == "src");
+        self.replacements.iter().all(|replacement| in_src(replacement) && !replacement.old.contains('≡'))
     }
 
     /// By its own name, or by that of the edit that it is in.
