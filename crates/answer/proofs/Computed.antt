@@ -1,4 +1,4 @@
--- Document 01's example through both calls, and an answer for each question that turns one down.
+-- Document 01's example through both calls over records, and an answer for each question that turns one down.
 -- By computing, for every tree that is the table's own and every buffer that is long enough.
 use mathlib.Core.Path.{_≡_, ap, ap₂}
 use mathlib.Core.Bool.{true, _&&_}

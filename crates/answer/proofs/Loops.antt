@@ -1,4 +1,4 @@
--- The loops over values: a copy, and the test for 0 and 1.
+-- The loop over values: the test for 0 and 1.
 -- One law for each way that the loop goes on.
 use mathlib.Core.Path.{_≡_, sym, ap, _∙_}
 use mathlib.Core.Bool.{Bool, true, false, _&&_}

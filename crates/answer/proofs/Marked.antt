@@ -9,7 +9,8 @@ use Rattle.planning.specs.Table.{Table}
 use Rattle.planning.specs.Place.{place, childLabel, childCount}
 use Rattle.planning.specs.Marked.{shown, deeper, emptyBody, withoutMethods, serveAndLift, serveAndLiftDeeper, twice, needsOpen, needsOpenAtStart, setsAndClears}
 use Rattle.planning.proofs.Computed.Marked.{marked}
-use Rattle.table.specs.Examples.{tenFiles, shownFile, deeperFile, emptyFile, noneFile, bothFile, bothDeeperFile, twiceFile, needsFile, needsStartFile, clearsFile, threeServes, threeServesFile}
+use Rattle.table.specs.Examples.{tenFiles, shownFile, deeperFile, emptyFile, noneFile, bothFile, bothDeeperFile, twiceFile, needsFile, needsStartFile, clearsFile}
+use Rattle.table.specs.Examples.{deepestFile, deepest, longestFile, longest, factsFile, factsTable, threeServes, threeServesFile}
 use Rattle.table.proofs.Computed.{marked-files, edges, shown-reads, deeper-reads, empty-reads, none-reads, both-reads, both-deeper-reads, twice-reads, needs-reads, needs-start-reads, clears-reads}
 use Rattle.questions.specs.Questions.{unmet, afterReading, accepting}
 use Rattle.answer.specs.Demand3.{AcceptedAs, Demand3Whole}
@@ -60,6 +61,19 @@ ten-accepted : Every (λ (f : List ℕ × Table). AcceptedAs (f .0) (f .1)) tenF
 ten-accepted =
     (shown-accepted, (deeper-accepted, (empty-accepted, (none-accepted, (both-accepted, (both-deeper-accepted, (twice-accepted, (needs-accepted, (needs-start-accepted, (clears-accepted, tt))))))))))
 
+-- "Depth 8 is taken", "Bodies: 8 taken", "Facts: 64"
+deepest-taken : AcceptedAs deepestFile deepest
+unfolding place childLabel childCount
+deepest-taken = ap afterReading (edges .depth-8 .read)
+
+longest-taken : AcceptedAs longestFile longest
+unfolding place childLabel childCount
+longest-taken = ap afterReading (edges .body-8 .read)
+
+facts-taken : AcceptedAs (factsFile 64) (factsTable 64)
+unfolding place childLabel childCount
+facts-taken = ap afterReading (edges .facts-64 .1)
+
 -- "One method `serve,serve,serve`"
 three-taken : AcceptedAs (threeServesFile "5") (threeServes 5)
 unfolding place childLabel childCount
@@ -79,6 +93,9 @@ marked-and-edges = record {
       (λ f a. demand3-whole (f .0) (f .1) a) tenFiles ten-accepted;
   marked = marked;
   edges = edges;
+  depth-8-taken = deepest-taken;
+  body-8-taken = longest-taken;
+  facts-64-taken = facts-taken;
   three-nodes = refl;
   three-taken = three-taken;
   three-nodes-deeper = refl;

@@ -97,7 +97,8 @@ pub record Demand3Whole (file : List ℕ) (T : Table) : Type 0 where
       → (vs : List Bool) × (t : Tree) × Model T vs × Gives T vs t × (take (variables T) values ≡ bits vs) × OwnTree T tree
       × (8191 ≤ length values) × (24576 ≤ length text)
       × Lists file tree values text t
-  -- the same where no tree and no values are lent: of the answers that say SATISFIABLE those are listed,
+  -- the same where no tree and no values are lent: of the answers that say SATISFIABLE exactly those are
+  -- listed that set each variable once and no other and satisfy every clause,
   pub lists-answers : (answer text : List ℕ) (ls : List Lit) → 24576 ≤ length text → SaysSatisfiable answer ls
       → ((t : Tree) × Gives T (truths (variables T) ls) t × ListsAnswer file answer text t) ↔ SetsAndSatisfies T ls
   -- and no other, and in no shorter buffer

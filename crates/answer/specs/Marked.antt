@@ -7,7 +7,7 @@ use Rattle.lists.specs.List.{Every}
 use Rattle.planning.specs.Table.{Table}
 use Rattle.planning.specs.Place.{rootPlace, nodes}
 use Rattle.planning.specs.Marked.{Marked}
-use Rattle.table.specs.Examples.{tenFiles, MarkedFiles, Edges, threeServes, threeServesFile}
+use Rattle.table.specs.Examples.{tenFiles, MarkedFiles, Edges, deepestFile, deepest, longestFile, longest, factsFile, factsTable, threeServes, threeServesFile}
 use Rattle.questions.specs.Questions.{unmet, accepting}
 use Rattle.answer.specs.Demand3.{AcceptedAs, Demand3Whole}
 
@@ -20,6 +20,10 @@ pub record MarkedAndEdges : Type 0 where
   pub marked : Marked
   -- the edges of the reader
   pub edges : Edges
+  -- "Depth 8 is taken", "Bodies: 8 taken", "Facts: 64 and 65 likewise"
+  pub depth-8-taken : AcceptedAs deepestFile deepest
+  pub body-8-taken : AcceptedAs longestFile longest
+  pub facts-64-taken : AcceptedAs (factsFile 64) (factsTable 64)
   -- "One method `serve,serve,serve`: depth 5 has 364 nodes, depth 6 has 1,093 and gives 8."
   pub three-nodes : nodes (rootPlace (threeServes 5)) ≡ 364
   pub three-taken : AcceptedAs (threeServesFile "5") (threeServes 5)

@@ -1,4 +1,4 @@
--- What the programs that run stored cases share. How to read it: the key at the head of crate `planning`'s specs/Lib.
+-- What the program of stored cases works out by itself. How to read it: the key at the head of crate `planning`'s specs/Lib.
 --
 -- the number that digits spell
 pub mod Number

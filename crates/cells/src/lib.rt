@@ -43,7 +43,7 @@ fn fits_and_ends(s: &[u8]) -> bool
     s[n - 1] == b'\n'
 }
 
-// No variable has stood.
+// No variable has stood. The cells past n are left free.
 fn clear(cells: &mut [u8], n: usize)
     requires { ⌜ n ≤ length (now cells) ⌝ }
     ensures { λ r. ⌜ take n (now (cells .exit)) ≡ replicate n 2 ⌝ }
@@ -62,7 +62,8 @@ fn bit_of(sign: bool) -> u8
     if sign { 1 } else { 0 }
 }
 
-// Puts the value of variable v, and tells whether it had not stood: a number of no variable is put nowhere.
+// Puts the value of variable v, and tells whether it had not stood: a number of no variable is put nowhere. The cells past n
+// are left free.
 fn put(cells: &mut [u8], n: usize, v: usize, sign: bool) -> bool
     requires { ⌜ n ≤ length (now cells) ⌝ }
     ensures { λ r. ⌜ Put n (literal sign v) (now (cells .entry)) (now (cells .exit)) r ⌝ }
@@ -88,6 +89,7 @@ struct State {
     off: bool,
 }
 
+// What else it says is left free, since nothing looks at it.
 fn unformed() -> State
     ensures { λ r. ⌜ r .formed ≡ false ⌝ }
 {

@@ -64,7 +64,7 @@ pub extern "C" fn curdfuture_build<'a, 'b, 'c>(
     tell_built(built, nodes)
 }
 
-// The answer of `write_text` as numbers.
+// The answer of a call that writes text, as numbers.
 fn tell_text<'a, 'b>(written: Text, used: &'a mut usize, next: &'b mut usize) -> usize
     ensures { λ r. ⌜ Crossed (textFrom written) (now (used .entry) ∷ now (next .entry) ∷ []) (now (used .exit) ∷ now (next .exit) ∷ []) r ⌝ }
 {
@@ -143,7 +143,7 @@ pub extern "C" fn curdfuture_take_answer<'a, 'b, 'c, 'd, 'e>(
     tell_taken(taken, count)
 }
 
-// The answer of `list_procedure` as numbers.
+// The answer of a call that lists, as numbers.
 fn tell_listed(listed: Listed, used: &mut usize) -> usize
     ensures { λ r. ⌜ Crossed (listedFrom listed) (now (used .entry) ∷ []) (now (used .exit) ∷ []) r ⌝ }
 {

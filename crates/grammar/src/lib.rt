@@ -1,5 +1,5 @@
 // The form of a table file: names, lists, fields and lines, and questions 2 and 3. A part is two places of the file, as in crate `lines`.
-// Inside the reader: crate `table` calls what is lent here, and its contracts are the ones that other crates use.
+// Inside the reader: crates `outline` and `rows` call what is lent here, and other crates use the contracts of `table`.
 ghost use mathlib.Core.Path.{_≡_};
 ghost use Prim.Native.Nat.{_≤_};
 ghost use lib.ListN.{length};

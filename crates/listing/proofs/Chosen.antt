@@ -34,13 +34,6 @@ module _ {A : Type 0} (v : Valuation) where
       go false none h = tt
       go false (some a) h = inr h
 
-  -- only the values of their variables count
-  pub chosen-agree : (w : Valuation) (b : ℕ) (xs : List A) → ((n : ℕ) → b ≤ n → n < b + length xs → v n ≡ w n) → chosen v (number b xs) ≡ chosen w (number b xs)
-  chosen-agree w b [] h = refl
-  chosen-agree w b (x ∷ xs) h =
-      ap (λ (c : Bool). orElse c x (chosen v (number (suc b) xs))) (h b (omega arith) (omega arith))
-      ∙ ap (orElse (w b) x) (chosen-agree w (suc b) xs (λ n l k. h n (omega arith) (omega arith)))
-
 -- Members by place -----------------------------------------------------------------------------------------------------------
 pub elem-in : (xs : List ℕ) (i : ℕ) → i < length xs → getElem? xs i ≡ some (getD xs i 0)
 elem-in [] i h = absurd (omega arith)

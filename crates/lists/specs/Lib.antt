@@ -6,5 +6,5 @@ pub mod List
 pub mod Question
 -- what a write into a buffer leaves
 pub mod Written
--- text as bytes, for examples
+-- text as bytes
 pub mod Text

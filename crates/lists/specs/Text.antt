@@ -1,4 +1,4 @@
--- Text as bytes, for examples.
+-- Text as bytes.
 -- Assumes nothing.
 use mathlib.Core.List.{List, [], _∷_}
 use Prim.Native.Nat.{ℕ}

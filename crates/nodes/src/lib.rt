@@ -1,6 +1,6 @@
-// The lent tree records, one a node: a slice of node structs behind a few thin functions. Each that is lent the slice is proved by hand. The crates
-// above work over the
-// records' words, five a record: of a lent slice they take the length, and what its records hold goes through these functions alone.
+// The lent tree records, one a node: a slice of node structs behind a few thin functions. Each that is lent the slice is proved by hand. The
+// crates above work over the records' words, five a record: of a lent slice they take the length, and what its records hold goes through
+// these functions alone.
 ghost use mathlib.Core.Path.{_≡_};
 ghost use Prim.Native.Nat.{_+_, _*_, _≤_, _<_};
 ghost use lib.ListN.{length, set, getD};

@@ -325,7 +325,7 @@ fn refused(question: usize) -> Outline
     }
 }
 
-// Question 2 comes before any walk of the file, so that a file of any length is turned down at once.
+// Question 2 comes before any walk of the file, so that one that is too long is turned down at once, however long.
 pub fn outline_of(s: &[u8]) -> Outline
     ensures { λ r. ⌜ Outlined (now (s .entry)) r ⌝ }
 {

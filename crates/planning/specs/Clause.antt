@@ -55,7 +55,7 @@ jobClause T methods x = elim (x .1) [ step s ↦ [] | job j ↦ (neg (x .0) ∷ 
 abbrev pub methodClause : Table → List (ℕ × Task) → ℕ × ℕ → Clause
 methodClause T tasks m = neg (m .0) ∷ varOf (job (jobOf T (m .1))) tasks
 
--- (e), *applyMethod*, of one method, with variable n: "[for each] child in order: if the body has a name there, the method negated then
+-- (e), *applyMethod*, of one method, with variable n: for each "child in order: if the body has a name there, the method negated then
 -- that task at the child, or the method negated alone if that task has no variable; otherwise, for each task variable of the child, the
 -- method and it, both negated"
 abbrev pub bodyClauses : ℕ → List Task → List (List (ℕ × Task)) → List Clause

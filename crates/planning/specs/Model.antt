@@ -46,7 +46,7 @@ bits vs = map bit vs
 abbrev pub truthsIn : List ℕ → List Bool
 truthsIn vs = map (eqb 1) vs
 
--- "A model makes each variable true or false, and has no others, so that every clause [is satisfied]": a list of values, one for each
+-- "A model makes each variable true or false, and has no others, so that every clause .." is satisfied: a list of values, one for each
 -- variable (a satisfying assignment)
 pub record Model (T : Table) (vs : List Bool) : Type 0 where
   pub whole : length vs ≡ variables T

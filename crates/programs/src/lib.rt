@@ -170,6 +170,7 @@ fn room_for(asked: usize) -> usize
     asked
 }
 
+// Part by part. What the text holds afterwards is left free, but for its length.
 fn print_parts<'a, 'b>(file: &'a [u8], text: &'b mut [u8])
     requires { ⌜ 1024 ≤ length (now text) ⌝ }
     ensures { λ _. ⌜ length (now (text .exit)) ≡ length (now (text .entry)) ⌝ }

@@ -1,4 +1,4 @@
-// The questions that every call above puts: 2 to 9 to a table file, and 10 to a lent tree. Each is asked here alone. `ws` is the table's
+// The questions that several calls above put: 2 to 9 to a table file, and 10 to a lent tree. Each is asked here alone. `ws` is the table's
 // sheet.
 ghost use mathlib.Core.Path.{_≡_};
 ghost use Prim.Native.Nat.{_+_, _≤_, _<_};

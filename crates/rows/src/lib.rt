@@ -1,5 +1,5 @@
-// The lines of a table file as numbers, and question 7: fact lists as sets, bodies as tasks, the start, the root job and the depth. Every
-// function asks that questions 2 to 6 are met (`Ready`); the read of crate `table` puts them first. Inside the reader, as crate
+// The lines of a table file as numbers, and question 7: fact lists as sets, bodies as tasks, the start, the root job and the depth. What
+// looks a name up asks that questions 2 to 6 are met (`Ready`); the read of crate `table` puts them first. Inside the reader, as crate
 // `grammar` is.
 ghost use mathlib.Core.Path.{_≡_};
 ghost use mathlib.Core.Bool.{_&&_};

@@ -6,7 +6,7 @@ use Prim.Native.Nat.{ℕ}
 use Rattle.outline.specs.Sections.{sections}
 use Rattle.lines.specs.Parts.{linesOf}
 use Rattle.planning.specs.Marked.{shown, deeper, emptyBody, withoutMethods, serveAndLift, serveAndLiftDeeper, twice, needsOpen, needsOpenAtStart, setsAndClears}
-use Rattle.table.specs.Examples.{ExampleReads, MarkedFiles, Edges, fileWith, factsFile, threeServesFile}
+use Rattle.table.specs.Examples.{ExampleReads, MarkedFiles, Edges, factsFile, deepestFile, longestFile, threeServesFile}
 use Rattle.table.specs.Examples.{shownFile, deeperFile, emptyFile, noneFile, bothFile, bothDeeperFile, twiceFile, needsFile, needsStartFile, clearsFile}
 use Rattle.table.specs.Reading.{NameParts, namePartsOf, reading}
 
@@ -61,10 +61,10 @@ marked-files =
 pub edges : Edges
 unfolding reading namePartsOf
 edges = record {
-  depth-8 = record { names = partsIn (fileWith "-\topen\t-" "M\tserve\tlift\n" "-" "8"); read = refl; fact-names = refl; step-names = refl; job-names = refl };
+  depth-8 = record { names = partsIn deepestFile; read = refl; fact-names = refl; step-names = refl; job-names = refl };
   body-8 =
       record {
-        names = partsIn (fileWith "-\topen\t-" "M\tserve\tlift,lift,lift,lift,lift,lift,lift,lift\n" "-" "1");
+        names = partsIn longestFile;
         read = refl;
         fact-names = refl;
         step-names = refl;

@@ -1,5 +1,5 @@
--- What is promised of every reading: accepted tables, refusal numbers, names.
--- Each field of an accepted table follows from the questions that are met.
+-- What is promised of every reading: tables that pass, refusal numbers, names.
+-- Each field of a table that passes follows from the questions that are met.
 use mathlib.Core.Path.{_≡_, ap₂, refl, sym, ap, subst, _∙_}
 use mathlib.Core.Bool.{Bool, true, false, cond, _&&_, _||_}
 use mathlib.Core.List.{List, [], _∷_, _++_, map}
@@ -62,7 +62,7 @@ every-read : {A B : Type 0} (p : A → Bool) (f : A → B) (Q : B → Type 0) �
 every-read p f Q h [] e = tt
 every-read p f Q h (x ∷ xs) e = (h x (and-l (p x) (all p xs) e), every-read p f Q h xs (and-r (p x) (all p xs) e))
 
--- An accepted table ----------------------------------------------------------------------------------------------------------
+-- A table that passes --------------------------------------------------------------------------------------------------------
 module _ (ls : List Piece) (e3 : met3 ls ≡ true) (e4 : met4 (sections ls) ≡ true) where
   abbrev p : Sections
   p = sections ls
@@ -120,7 +120,7 @@ module _ (ls : List Piece) (e3 : met3 ls ≡ true) (e4 : met4 (sections ls) ≡ 
       }
 
 -- The verdict ----------------------------------------------------------------------------------------------------------------
--- what an accepted reading says
+-- what a reading that passes says
 abbrev tableOr : Table → Reading → Table
 tableOr d (refused n) = d
 tableOr d (passed t ns) = t

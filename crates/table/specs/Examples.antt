@@ -85,6 +85,19 @@ factsFile n = factLines n ++ bytes "T\tserve\nI\t-\nR\tserve\t1\n"
 abbrev pub factsTable : ℕ → Table
 factsTable n = record { facts = n; steps = []; jobs = 1; methods = []; start = []; root = 0; depth = 1 }
 
+-- depth 8; a body of 8
+abbrev pub deepestFile : List ℕ
+deepestFile = fileWith "-\topen\t-" "M\tserve\tlift\n" "-" "8"
+
+abbrev pub deepest : Table
+deepest = table lift (by (step 0 ∷ []) ∷ []) [] 8
+
+abbrev pub longestFile : List ℕ
+longestFile = fileWith "-\topen\t-" "M\tserve\tlift,lift,lift,lift,lift,lift,lift,lift\n" "-" "1"
+
+abbrev pub longest : Table
+longest = table lift (by (step 0 ∷ step 0 ∷ step 0 ∷ step 0 ∷ step 0 ∷ step 0 ∷ step 0 ∷ step 0 ∷ []) ∷ []) [] 1
+
 -- "One method `serve,serve,serve`"
 abbrev pub threeServes : ℕ → Table
 threeServes depth = table lift (by (job 0 ∷ job 0 ∷ job 0 ∷ []) ∷ []) [] depth
@@ -92,14 +105,14 @@ threeServes depth = table lift (by (job 0 ∷ job 0 ∷ job 0 ∷ []) ∷ []) []
 abbrev pub threeServesFile : (depth : String) → List ℕ
 threeServesFile depth = fileWith "-\topen\t-" "M\tserve\tserve,serve,serve\n" "-" depth
 
+-- what the reader says of them; that those it reads are taken too stands in `answer`, specs/Marked
 pub record Edges : Type 0 where
   -- "Depth 8 is taken, 0 and 9 give 3."
-  pub depth-8 : ExampleReads (fileWith "-\topen\t-" "M\tserve\tlift\n" "-" "8") (table lift (by (step 0 ∷ []) ∷ []) [] 8)
+  pub depth-8 : ExampleReads deepestFile deepest
   pub depth-0 : reading (fileWith "-\topen\t-" "M\tserve\tlift\n" "-" "0") ≡ refused 3
   pub depth-9 : reading (fileWith "-\topen\t-" "M\tserve\tlift\n" "-" "9") ≡ refused 3
   -- "Bodies: 8 taken, 9 gives 5."
-  pub body-8 : ExampleReads (fileWith "-\topen\t-" "M\tserve\tlift,lift,lift,lift,lift,lift,lift,lift\n" "-" "1")
-      (table lift (by (step 0 ∷ step 0 ∷ step 0 ∷ step 0 ∷ step 0 ∷ step 0 ∷ step 0 ∷ step 0 ∷ []) ∷ []) [] 1)
+  pub body-8 : ExampleReads longestFile longest
   pub body-9 : reading (fileWith "-\topen\t-" "M\tserve\tlift,lift,lift,lift,lift,lift,lift,lift,lift\n" "-" "1") ≡ refused 5
   -- "Facts: 64 and 65 likewise."
   pub facts-64 : (ns : NameParts) × (reading (factsFile 64) ≡ passed (factsTable 64) ns)

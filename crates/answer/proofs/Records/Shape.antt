@@ -1,4 +1,4 @@
--- What both calls of this crate have in common: the types of what they are lent, what they say, their MIR. Each has the records' words made and hands them to its core.
+-- What both calls over records have in common: the types of what they are lent, what they say, their MIR. Each has the records' words made and hands them to its core.
 -- Assumes nothing: these are definitions, to which those of the two calls compute.
 use mathlib.Core.List.{[], _∷_, List}
 use Prim.Native.Nat.{ℕ}

@@ -1,4 +1,4 @@
--- The walk that both calls of this crate share, by hand: a straight line of two calls. The records' words come by value, and are lent to the core to be read. A call's own
+-- The walk that both calls over records share, by hand: a straight line of two calls. The records' words come by value, and are lent to the core to be read. A call's own
 -- proof hands in its answer's type, its core and what both say. Assumes nothing.
 use mathlib.Core.Path.{_≡_, refl, sym, subst}
 use Prim.Native.Nat.{ℕ, _<_, _^_}

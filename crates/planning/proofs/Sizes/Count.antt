@@ -33,32 +33,6 @@ abbrev pub widths : List (List (ℕ × Task)) → ℕ
 widths [] = 0
 widths (c ∷ cs) = length c + widths cs
 
--- (e), of one method: one for each child that gets a name, and one for each task variable of the others
-pub body-count : (n : ℕ) (ts : List Task) (cs : List (List (ℕ × Task))) → length ts ≤ length cs → length (bodyClauses n ts cs) ≡ length ts + widths (drop (length ts) cs)
-body-count n [] [] l = refl
-body-count n [] (c ∷ cs) l =
-    length-append (notBoth n c) (bodyClauses n [] cs)
-    ∙ omega (arith, length-map c (λ x. neg n ∷ neg (x .0) ∷ []), body-count n [] cs (omega arith))
-body-count n (t ∷ ts) [] l = absurd (omega arith)
-body-count n (t ∷ ts) (c ∷ cs) l = let h = body-count n ts cs (omega arith) in omega arith
-
--- (f), of one step: one, and one for each task variable of children 2 and up
-pub pass-count : (n s : ℕ) (c : List (ℕ × Task)) (cs : List (List (ℕ × Task))) → length (passClauses n s (c ∷ cs)) ≡ suc (widths cs)
-pass-count n s c cs = ap suc (go cs)
-  where
-    go : (cs : List (List (ℕ × Task))) → length (concatMap (λ d. notBoth n d) cs) ≡ widths cs
-    go [] = refl
-    go (d ∷ ds) = length-append (notBoth n d) (concatMap (λ e. notBoth n e) ds) ∙ omega (arith, length-map d (λ x. neg n ∷ neg (x .0) ∷ []), go ds)
-
--- so of all the steps of a node with children
-pub steps-count : (b : ℕ) (ss js : List ℕ) (c : List (ℕ × Task)) (cs : List (List (ℕ × Task)))
-    → length (concatMap (stepClauses (c ∷ cs)) (number b (map step ss ++ map job js))) ≡ length ss * suc (widths cs)
-steps-count b [] [] c cs = sym (zero-mul (suc (widths cs)))
-steps-count b [] (j ∷ js) c cs = steps-count (suc b) [] js c cs
-steps-count b (s ∷ ss) js c cs =
-    length-append (passClauses b s (c ∷ cs)) (concatMap (stepClauses (c ∷ cs)) (number (suc b) (map step ss ++ map job js)))
-    ∙ omega (arith, pass-count b s c cs, steps-count (suc b) ss js c cs, suc-mul (length ss) (suc (widths cs)))
-
 -- (g): one for each task variable of the children
 pub up-count : (tasks : List (ℕ × Task)) (cs : List (List (ℕ × Task))) → length (concatMap (λ c. map (upClause tasks) c) cs) ≡ widths cs
 up-count tasks [] = refl

@@ -11,8 +11,10 @@ use std::process::{Command, ExitCode};
 
 const PROGRAM: &str = "stored";
 
-/// The program runs nothing of these; a static library, which does, is only built once it is proved.
+/// The program runs nothing of these crates, and lends no tree, so nothing of these modules; a static library, which does, is only built
+/// once it is proved.
 const NOT_BELOW: [&str; 2] = ["curdfuture/", "nodes/"];
+const WITH_A_TREE: &str = "src/flat.rt";
 
 enum Tried {
     Same,
@@ -105,7 +107,8 @@ fn main() -> ExitCode {
     };
     let word = |place: usize, otherwise: &str| arguments.get(place).cloned().unwrap_or_else(|| otherwise.to_string());
     let wanted = arguments.get(5..).unwrap_or(&[]);
-    let is_below = |fault: &Fault| fault.is_of_code() && !NOT_BELOW.iter().any(|start| fault.name.starts_with(start));
+    let lends = |fault: &Fault| fault.replacements.iter().any(|replacement| replacement.file.ends_with(WITH_A_TREE));
+    let is_below = |fault: &Fault| fault.is_of_code() && !lends(fault) && !NOT_BELOW.iter().any(|start| fault.name.starts_with(start));
     let mut faults = faults(&repository.join("crates"));
     faults.retain(|fault| is_below(fault) && (wanted.is_empty() || wanted.iter().any(|name| fault.is_named(name))));
     let folder = scratch::enter();
