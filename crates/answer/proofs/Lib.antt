@@ -14,8 +14,5 @@ pub mod ShowingAnswer
 pub mod Loops
 pub mod Outcomes
 pub mod Lent
--- demand 3; the ten marked tables, and the edges
-pub mod Demand3
-pub mod Marked
 -- the walk that the calls over records share
 pub mod Records

@@ -2,5 +2,3 @@
 --
 -- what a call hands back, as numbers
 pub mod Numbers
--- which numbers that may be
-pub mod Ranges

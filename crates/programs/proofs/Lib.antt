@@ -2,9 +2,7 @@
 pub mod Counting
 -- how long the lines are
 pub mod Lines
--- a file longer than was read is noticed
-pub mod Cut
--- the parts are the whole
-pub mod Whole
+-- a part has a line at least
+pub mod GettingOn
 -- what the functions leave
 pub mod Writing

@@ -30,7 +30,7 @@ use Rattle.programs.specs.Output.{refusedLine, formulaLines, procedureTe
 use Rattle.programs.specs.Parts.{PartOf}
 use Rattle.programs.specs.declared.Part.{Part}
 use Rattle.programs.proofs.Lines.{lines-accepted, lines-short}
-use Rattle.programs.proofs.Whole.{gets-on}
+use Rattle.programs.proofs.GettingOn.{gets-on}
 
 -- A refusal's line ----------------------------------------------------------------------------------------------------------------
 -- its three parts, one behind the other

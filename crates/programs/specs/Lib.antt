@@ -2,7 +2,7 @@
 --
 -- what each program writes for a table and an answer
 pub mod Output
--- how much is read and written at a time, and that nothing is cut
+-- how much is read and written at a time
 pub mod Room
 -- inside: a part of the output
 pub mod Parts

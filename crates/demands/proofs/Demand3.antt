@@ -35,15 +35,15 @@ use Rattle.listing.proofs.Walked.{walked-is}
 use Rattle.listing.proofs.Fits.{walked-fits}
 use Rattle.questions.specs.Questions.{Verdict, accepted, accepting, namesOf, byNumber, byVerdict, asked, turnedDown, taken}
 use Rattle.questions.proofs.Asked.{asked-accepted}
 use Rattle.answer.specs.Calls.{enoughValues, enoughListing, met15, answered, questionsOfAnswer, questionsTaking, taking, valuesAfter}
 use Rattle.answer.specs.Calls.{own, lent14, lent, questionsListing, listingOf, shown, showing, shownAnswer, showingAnswer}
-use Rattle.answer.specs.Demand3.{OwnTree, SaysSatisfiable, SetsAndSatisfies, Takes, listingIn, Lists, ListsAnswer, ForEveryAcceptedFile}
+use Rattle.demands.specs.Demand3.{OwnTree, SaysSatisfiable, SetsAndSatisfies, Takes, listingIn, Lists, ListsAnswer, ForEveryAcceptedFile}
 use Rattle.answer.proofs.Questions.{FourMet, four-met, four-of, behind-10, tenth-met, lent-all, lent-met}
 use Rattle.questions.proofs.Acceptance.{accepted-table}
 use Rattle.answer.proofs.Acceptance.{short-names}
 use Rattle.answer.proofs.Answered.{answered-model}
 use Rattle.answer.proofs.Bits.{bits-back, bits-same, bits-binary, bits-length}
 use Rattle.answer.proofs.Showing.{lent-model}
 
 -- A call on an accepted file -------------------------------------------------------------------------------------------------------
 never : {A : Type 0} {n : ℕ} {ns : List ℕ} → turnedDown n ≡ taken ns → A

@@ -9,7 +9,7 @@ use Rattle.planning.specs.Place.{rootPlace, nodes}
 use Rattle.planning.specs.Marked.{Marked}
 use Rattle.table.specs.Examples.{tenFiles, MarkedFiles, Edges, deepestFile, deepest, longestFile, longest, factsFile, factsTable, threeServes, threeServesFile}
 use Rattle.questions.specs.Questions.{unmet, accepting}
-use Rattle.answer.specs.Demand3.{AcceptedAs, Demand3Whole}
+use Rattle.demands.specs.Demand3.{AcceptedAs, Demand3Whole}
 
 pub record MarkedAndEdges : Type 0 where
   -- each of the ten files is read as its table, with its names; it meets 2 to 9; demand 3 holds of it

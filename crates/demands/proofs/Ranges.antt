@@ -20,8 +20,8 @@ use Rattle.questions.specs.Questions.{Verdict, unmet, accepted, accepting, byNu
 use Rattle.questions.proofs.Acceptance.{unmet-range}
 use Rattle.encoding.specs.Calls.{enoughText, questionsWriting, questionsOfLine}
 use Rattle.answer.specs.Calls.{enoughValues, enoughListing, questionsTaking, questionsListing, questionsOfAnswer, shown, shownAnswer}
 use Rattle.curdfuture.specs.Numbers.{questionOf}
-use Rattle.curdfuture.specs.Ranges.{Within, Turns, Ranges}
+use Rattle.demands.specs.Ranges.{Within, Turns, Ranges}
 
 down : {m n : ℕ} → turnedDown m ≡ turnedDown n → m ≡ n
 down e = cc

@@ -14,9 +14,10 @@ use Rattle.planning.specs.Table.{Table}
 use Rattle.table.proofs.Promised.{promises}
 use Rattle.solver.specs.Questions.{met12}
 use Rattle.questions.specs.Questions.{Verdict, unmet, accepted, accepting, afterReading}
 use Rattle.programs.specs.Output.{refusedLine, formulaLines, procedureText}
-use Rattle.programs.specs.Room.{fileRoom, readOf, NothingCut}
-use Rattle.programs.proofs.Whole.{formula-parts}
+use Rattle.programs.specs.Room.{fileRoom}
+use Rattle.demands.specs.NothingCut.{readOf, NothingCut}
+use Rattle.demands.proofs.Whole.{formula-parts}
 
 -- what was read of a file is all of it, or both are too long
 read-whole : (file : List ℕ) → length file ≤ 65536 → readOf file ≡ file

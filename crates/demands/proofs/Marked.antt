@@ -13,9 +13,9 @@ use Rattle.table.specs.Examples.{tenFiles, shownFile, deeperFile, emptyFile, no
 use Rattle.table.specs.Examples.{deepestFile, deepest, longestFile, longest, factsFile, factsTable, threeServes, threeServesFile}
 use Rattle.table.proofs.Computed.{marked-files, edges, shown-reads, deeper-reads, empty-reads, none-reads, both-reads, both-deeper-reads, twice-reads, needs-reads, needs-start-reads, clears-reads}
 use Rattle.questions.specs.Questions.{unmet, afterReading, accepting}
-use Rattle.answer.specs.Demand3.{AcceptedAs, Demand3Whole}
-use Rattle.answer.specs.Marked.{MarkedAndEdges}
-use Rattle.answer.proofs.Demand3.{demand3-whole}
+use Rattle.demands.specs.Demand3.{AcceptedAs, Demand3Whole}
+use Rattle.demands.specs.Marked.{MarkedAndEdges}
+use Rattle.demands.proofs.Demand3.{demand3-whole}
 
 shown-accepted : AcceptedAs shownFile shown
 unfolding place childLabel childCount

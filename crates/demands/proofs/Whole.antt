@@ -1,38 +1,27 @@
 -- The parts that `formula` writes, one behind the other, are its whole output.
 -- By recursion on how many parts may still come: each has a line at least.
-use mathlib.Core.Path.{_≡_, refl, sym, ap, _∙_}
-use mathlib.Core.Bool.{Bool, true, false, cond}
-use mathlib.Core.List.{List, [], _∷_, _++_, append-nil}
-use Prim.Native.Nat.{ℕ, zero, suc, _+_, _≤_, _<_}
-use native.Mathlib.Nat.{add-zero}
+use mathlib.Core.Path.{_≡_, sym, ap, _∙_}
+use mathlib.Core.List.{List, [], _++_}
+use Prim.Native.Nat.{ℕ, zero, suc, _+_, _≤_}
 use native.Mathlib.Omega.{arith}
-use lib.Dec.{leb}
-use lib.ListN.{length, getD, drop, length-drop, drop-of-length-le}
-use lib.Seq.{drop-drop, getD-drop}
+use lib.ListN.{length, drop, drop-of-length-le}
+use lib.Seq.{drop-drop}
 use Rattle.lists.specs.List.{Every, concat}
 use Rattle.lists.proofs.Bool.{leb-cases}
-use Rattle.lists.proofs.Every.{every-out, every-imp}
-use Rattle.lists.proofs.Member.{in-getD}
+use Rattle.lists.proofs.Every.{every-imp}
 use Rattle.planning.specs.Text.{fitting}
-use Rattle.planning.proofs.Text.Call.{fitting-most, fitting-rest}
-use Rattle.planning.proofs.Text.Length.{some-fits}
+use Rattle.planning.proofs.Text.Call.{fitting-rest}
 use Rattle.programs.specs.Output.{formulaLines, formulaText}
-use Rattle.programs.specs.Room.{partsFrom}
 use Rattle.programs.proofs.Lines.{lines-short}
+use Rattle.programs.proofs.GettingOn.{gets-on}
+use Rattle.demands.specs.NothingCut.{partsFrom}
 
 module _ (n : ℕ) (ls : List (List ℕ)) (short : Every (λ (l : List ℕ). length l ≤ n) ls) where
   abbrev part : ℕ → List (List ℕ)
   part j = fitting n (drop j ls)
 
-  -- where a line is left, a part has one
-  pub gets-on : (j : ℕ) → j < length ls → 1 ≤ length (part j)
-  gets-on j h =
-      let z : getD (drop j ls) 0 [] ≡ getD ls j [] = getD-drop j ls 0 [] ∙ ap (λ (i : ℕ). getD ls i []) (add-zero j) in
-      let k : length (getD (drop j ls) 0 []) ≤ n = rw z (every-out (λ (l : List ℕ). length l ≤ n) ls short (getD ls j []) (in-getD j ls [] h)) in
-      some-fits n (drop j ls) (length (part j)) (omega (arith, length-drop j ls)) k (fitting-most n (drop j ls))
-
   -- what is left behind a part
-  pub goes-on : (j : ℕ) → concat (drop j ls) ≡ concat (part j) ++ concat (drop (j + length (part j)) ls)
+  goes-on : (j : ℕ) → concat (drop j ls) ≡ concat (part j) ++ concat (drop (j + length (part j)) ls)
   goes-on j = fitting-rest n (drop j ls) ∙ ap (λ (xs : List (List ℕ)). concat (part j) ++ concat xs) (drop-drop (length (part j)) j ls)
 
   nothing-left : (j : ℕ) → length ls ≤ j → concat (drop j ls) ≡ []
@@ -43,7 +32,7 @@ module _ (n : ℕ) (ls : List (List ℕ)) (short : Every (λ (l : List ℕ). len
   all-parts (suc k) j h = leb-cases (partsFrom n ls (suc k) j ≡ concat (drop j ls)) (length ls) (j + length (part j))
       (λ q e. rw e (ap (λ (xs : List ℕ). concat (part j) ++ xs) (sym (nothing-left (j + length (part j)) q)) ∙ sym (goes-on j)))
       (λ q e.
-      rw e (ap (λ (xs : List ℕ). concat (part j) ++ xs) (all-parts k (j + length (part j)) (omega (arith, gets-on j (omega arith)))) ∙ sym (goes-on j)))
+      rw e (ap (λ (xs : List ℕ). concat (part j) ++ xs) (all-parts k (j + length (part j)) (omega (arith, gets-on n ls short j (omega arith)))) ∙ sym (goes-on j)))
 
 pub formula-parts : (file : List ℕ) (n : ℕ) → 1024 ≤ n → partsFrom n (formulaLines file) (length (formulaLines file)) 0 ≡ formulaText file
 formula-parts file n h =
