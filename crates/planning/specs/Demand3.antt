@@ -1,5 +1,5 @@
 -- Demand 3 for the formula of a table: its models and the procedure trees that are wanted match one to one. The statement alone;
--- proofs/Demand3.antt proves it. The quotations are of the demand, of which the part on answer files stands in crate `answer`, specs/Demand3.
+-- proofs/Demand3.antt proves it. The quotations are of the demand, of which the part on answer files stands in crate `demands`, specs/Demand3.
 -- Assumes nothing.
 use mathlib.Core.Path.{_≡_}
 use mathlib.Core.Bool.{Bool, true}

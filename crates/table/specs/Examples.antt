@@ -1,5 +1,5 @@
 -- The files of the ten marked tables, and the edges: "Marked tables (*) and edges". The statements alone; proofs/Computed.antt proves
--- them by computing each reading. What comes of the ten behind the reader stands in crate `answer`, specs/Marked. Assumes nothing.
+-- them by computing each reading. What comes of the ten behind the reader stands in crate `demands`, specs/Marked. Assumes nothing.
 use mathlib.Core.Path.{_≡_}
 use mathlib.Core.List.{List, [], _∷_, _++_, map}
 use Prim.Native.Nat.{ℕ, _+_, _/_, _%_}
@@ -105,7 +105,7 @@ threeServes depth = table lift (by (job 0 ∷ job 0 ∷ job 0 ∷ []) ∷ []) []
 abbrev pub threeServesFile : (depth : String) → List ℕ
 threeServesFile depth = fileWith "-\topen\t-" "M\tserve\tserve,serve,serve\n" "-" depth
 
--- what the reader says of them; that those it reads are taken too stands in `answer`, specs/Marked
+-- what the reader says of them; that those it reads are taken too stands in `demands`, specs/Marked
 pub record Edges : Type 0 where
   -- "Depth 8 is taken, 0 and 9 give 3."
   pub depth-8 : ExampleReads deepestFile deepest
