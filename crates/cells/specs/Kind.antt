@@ -55,7 +55,7 @@ commentKind OtherKind = false
 abbrev pub isComment : List ℕ → Bool
 isComment l = commentKind (kind l)
 
--- r is the place of the first line from a on that is no comment
+-- r is the place of the first line from a on that is no comment. Left free: r, where there is none and no LF ends the last
 pub record Passed (s : List ℕ) (a r : ℕ) : Type 0 where
   pub high : r ≤ length s
   pub rest : ended LF (slice r (length s) s) ≡ dropWhile isComment (ended LF (slice a (length s) s))

@@ -18,11 +18,11 @@ readingFrom st cs = record { ended = st .ended; off = st .off; cells = cs }
 abbrev pub stateFrom : State → List ℕ → Option Reading
 stateFrom st cs = cond (st .formed) (some (readingFrom st cs)) none
 
--- the code's state and the first n cells are this reading
+-- the code's state and the first n cells are this reading. Left free: the cells past n; where the answer is not formed, all else
 pub record Stands (n : ℕ) (st : State) (cs : List ℕ) (o : Option Reading) : Type 0 where
   pub is : stateFrom st (take n cs) ≡ o
 
--- the number was put into the first n cells if its variable had not stood; r tells that
+-- the number was put into the first n cells if its variable had not stood; r tells that. Left free: the cells past n
 pub record Put (n : ℕ) (l : Lit) (cs cs′ : List ℕ) (r : Bool) : Type 0 where
   pub told : r ≡ free (take n cs) l
   pub cells : take n cs′ ≡ setIf (free (take n cs) l) (take n cs) (variableOf l - 1) (bit (sign l))

@@ -115,8 +115,8 @@ pub record NodePassed (T : Table) (c d : Cursor) : Type 0 where
   pub inside : In T d
   pub start : (d .group ≡ 0) × (d .x ≡ 0) × (d .y ≡ 0) × (d .i ≡ 0)
 
--- a row's first place, from which k clauses are to be passed over to stand before clause j. Left free: which such place it is, where rows
--- without clauses come before that of clause j
+-- a row's first place, from which k clauses are to be passed over to stand before clause j. Left free: which row up to that of
+-- clause j it is, and with it k; all of both, where there is no clause j
 pub record SoughtRow (T : Table) (j k : ℕ) (c : Cursor) : Type 0 where
   pub seeking : Seeking (source T) j k (posOf c)
   pub inside : In T c

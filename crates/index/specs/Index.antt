@@ -72,7 +72,7 @@ pub record Few (ix : List ℕ) : Type 0 where
   pub slots : slotsIn ix ≤ 1024
 
 -- What is known of it ----------------------------------------------------------------------------------------------------------
--- slot k is the node c
+-- slot k is the node c. Left free: which node without steps, where the slot has none
 pub record SlotAt (T : Table) (k c : ℕ) : Type 0 where
   pub inside : c < length ((source T) .nodes)
   pub same : slotAt (source T) k ≡ number ((nodeAt (source T) c) .first) ((nodeAt (source T) c) .steps)

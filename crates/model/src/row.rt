@@ -42,6 +42,8 @@ fn has_task<'a, 'v>(ws: &'a [u64], ix: &'a [u64], values: &'v [u8], n: usize) ->
     has_on(values, shape::first(ws, ix, n), shape::tasks_of(ws, ix, n))
 }
 
+// The tests below are sufficient only: `false` says nothing of the row.
+//
 // (g) of one child: has the node a true task, or the child none?
 fn up_row_holds<'a, 'v>(ws: &'a [u64], ix: &'a [u64], values: &'v [u8], c: Cursor) -> bool
     requires { ⌜ Indexed (tableIn (now ws)) (now ix) × Holds (tableIn (now ws)) c × (c .rule ≡ 1) × (c .group ≡ 6) ⌝ }

@@ -11,14 +11,15 @@ use Rattle.grammar.specs.Line.{F, S, T, byteOf, nameIn}
 use Rattle.outline.specs.Sections.{leading, past, sections}
 use Rattle.outline.specs.Part.{partOf}
 
--- n lines from the place a on begin with the byte c, and the others begin at e
+-- n lines from the place a on begin with the byte c, and the others begin at e. Left free: e, where there are no others and no LF ends the last
 pub record Runs (c : ℕ) (s : List ℕ) (a n e : ℕ) : Type 0 where
   pub low : a ≤ e
   pub high : e ≤ length s
   pub count : n ≡ length (leading c (linesFrom s a))
   pub rest : linesFrom s e ≡ past c (linesFrom s a)
 
--- the counts of the F, S, T and M lines, and the places where the S lines, the T lines, the M lines and the last lines begin
+-- the counts of the F, S, T and M lines, and the places where the S lines, the T lines, the M lines and the last lines begin.
+-- Left free: a place behind which no line comes, where no LF ends the last
 pub record Shaped (s : List ℕ) (f st j m atS atT atM atE : ℕ) : Type 0 where
   pub facts : f ≡ length ((sections (linesOf s)) .facts)
   pub steps : st ≡ length ((sections (linesOf s)) .steps)
@@ -40,7 +41,7 @@ pub record Entry (s : List ℕ) (l : Piece) (p z : ℕ) : Type 0 where
   pub high : p + z ≤ length s
   pub shown : slice p (p + z) s ≡ nameIn (l .bytes)
 
--- the first k places and sizes are those of the names of the first k lines
+-- the first k places and sizes are those of the names of the first k lines. Left free: those past k
 pub record Held (s : List ℕ) (ls : List Piece) (starts sizes : List ℕ) (k : ℕ) : Type 0 where
   pub at : (i : ℕ) → i < k → Entry s (getD ls i noLine) (getD starts i 0) (getD sizes i 0)
 

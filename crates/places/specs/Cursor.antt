@@ -1,7 +1,7 @@
--- Inside the encoding, nothing to believe: the cursor, which is a position, and what its method hands back, the next clause's place and itself
--- advanced, or the end. Assumes nothing.
+-- Inside the encoding, nothing to believe: the cursor, which is a position, and what it has yet to hand out.
+-- Assumes nothing.
 use mathlib.Core.Path.{_≡_}
-use mathlib.Core.List.{List, [], _∷_, map}
+use mathlib.Core.List.{List, map}
 use Prim.Native.Nat.{ℕ, _+_}
 use lib.ListN.{drop}
 use Rattle.planning.specs.Clause.{Clause}
@@ -9,21 +9,9 @@ use Rattle.planning.specs.Text.{clauseLine}
 use Rattle.places.specs.Nest.{Pos, at, positions, left}
 use Rattle.places.specs.ClausePlace.{Source, ClausePlace, literals, shape, placeAt}
 
-pub data Next : Type 0 where
-  clause : ClausePlace → Pos → Next
-  done : Next
-
 -- the cursor behind a clause
 abbrev pub after : Pos → Pos
 after p = at (p .rule) (p .node) (p .group) (p .x) (p .y) (p .i + 1)
-
-abbrev pub answer : Source → List Pos → Next
-answer S [] = done
-answer S (p ∷ ps) = clause (placeAt S p) (after p)
-
--- what the method hands back
-abbrev pub nextOf : Source → Pos → Next
-nextOf S c = answer S (left (shape S) c)
 
 abbrev pub begin : Pos
 begin = at 0 0 0 0 0 0

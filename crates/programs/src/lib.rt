@@ -29,6 +29,7 @@ const TEXT_LEAST: usize = 1024;
 const LISTING_LEAST: usize = 24576;
 
 // Reading ------------------------------------------------------------------------------------------------------------------------
+// Left free of a buffer: its contents.
 pub fn file_buffer() -> [u8; FILE_ROOM]
     ensures { λ r. ⌜ fileRoom ≡ length r ⌝ }
 {
@@ -61,7 +62,7 @@ pub fn read_file(fd: i32, buf: &mut [u8]) -> usize
     n
 }
 
-// The bytes of the file with that name. "A file that cannot be opened counts as empty."
+// The bytes of the file with that name, left free too. "A file that cannot be opened counts as empty."
 pub fn read_named(path: &[u8], buf: &mut [u8]) -> usize
     ensures { λ r. ⌜ Counts r (now (buf .exit)) ⌝ }
 {

@@ -25,6 +25,7 @@ pub struct Prepared {
     pub table: Table,
 }
 
+// Left free: both counts.
 fn unmet(question: usize) -> Measure
     ensures { λ r. ⌜ (r .question ≡ question) ⌝ }
 {
@@ -54,7 +55,7 @@ fn measure_of(ws: &[u64]) -> Measure
     }
 }
 
-// Questions 2 to 9. The table's sheet is left in ws; on a refusal what ws holds and the counts are left free.
+// Questions 2 to 9. The table's sheet is left in ws; on a refusal what ws holds, the counts and the table are left free.
 pub fn prepare(file: &[u8], ws: &mut [u64]) -> Prepared
     requires { ⌜ sheetSize ≤ length (now ws) ⌝ }
     ensures { λ r. ⌜ IsPrepared (now (file .entry)) (tableIn (now (ws .exit))) r ⌝ }

@@ -1,5 +1,5 @@
 -- Inside the encoding, nothing to believe: what each part of the writing of a sheet leaves, o before it and o′ after it. Places are written in
--- rising order, so a part keeps every place before its own. Assumes nothing.
+-- rising order, so a part keeps every place before its own. Left free by each part: all places behind its own. Assumes nothing.
 use mathlib.Core.Path.{_≡_}
 use mathlib.Core.List.{List, [], _∷_}
 use mathlib.Core.Option.{Option, some}

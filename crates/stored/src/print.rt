@@ -1,24 +1,31 @@
 // Writes bytes, numbers and the fields of an outcome's line.
 use libc::STDOUT_FILENO;
 
+// Was it written whole? If not, standard error says so.
+fn written(whole: bool) {
+    if !whole {
+        os::fail(b"stored: the output could not be written whole");
+    }
+}
+
 pub fn bytes(text: &[u8]) {
-    io::write_all(STDOUT_FILENO, text);
+    written(io::write_all(STDOUT_FILENO, text));
 }
 
 pub fn number(n: usize) {
-    io::print_decimal(STDOUT_FILENO, n as u64);
+    word(n as u64);
 }
 
 pub fn word(n: u64) {
-    io::print_decimal(STDOUT_FILENO, n);
+    written(io::print_decimal(STDOUT_FILENO, n));
 }
 
 pub fn tab() {
-    io::write_all(STDOUT_FILENO, b"\t");
+    bytes(b"\t");
 }
 
 pub fn line_end() {
-    io::write_all(STDOUT_FILENO, b"\n");
+    bytes(b"\n");
 }
 
 // A refusal, with the line still open.

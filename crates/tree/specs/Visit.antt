@@ -62,7 +62,8 @@ pub record Small (c : Count) : Type 0 where
   pub slots : c .slots ≤ c .nodes
 
 -- A part of n nodes, v variables and s slots, with these records, was visited from the count c on: r is the count then, and o′ what the
--- lent words o hold, where there is room for all records
+-- lent words o hold, where there is room for all records. Left free: variables and slots past 1,024 nodes, of which only `small` is known; the
+-- lent words, where there is no room for all records
 pub record Visited (n v s : ℕ) (rs : List Record) (c : Count) (o o′ : List ℕ) (r : Count) : Type 0 where
   pub nodes : r .nodes ≡ min (c .nodes + n) 1025
   pub variables : c .nodes + n ≤ 1024 → r .variables ≡ c .variables + v
@@ -92,7 +93,7 @@ noCount = record { nodes = 0; variables = 0; slots = 0 }
 abbrev pub VisitedTree : Table → List ℕ → List ℕ → Count → Type 0
 VisitedTree T o o′ r = VisitedPart T (T .depth) 0 (rootLabel T) noCount o o′ r
 
--- a record put at a node's place, where there is room for it
+-- a record put at a node's place, where there is room for it. Left free: the words, where there is none
 pub record Put (at depth parent children steps jobs : ℕ) (o o′ : List ℕ) : Type 0 where
   pub kept : 5 * at + 5 ≤ length o
       → Wrote o (5 * at) (depth ∷ parent ∷ children ∷ (setOf 1 (membersIn steps) ++ setOf 1 (membersIn jobs))) o′ (5 * at + 5)
