@@ -32,7 +32,8 @@ module _ (n : ℕ) (ls : List (List ℕ)) (short : Every (λ (l : List ℕ). len
   all-parts (suc k) j h = leb-cases (partsFrom n ls (suc k) j ≡ concat (drop j ls)) (length ls) (j + length (part j))
       (λ q e. rw e (ap (λ (xs : List ℕ). concat (part j) ++ xs) (sym (nothing-left (j + length (part j)) q)) ∙ sym (goes-on j)))
       (λ q e.
-      rw e (ap (λ (xs : List ℕ). concat (part j) ++ xs) (all-parts k (j + length (part j)) (omega (arith, gets-on n ls short j (omega arith)))) ∙ sym (goes-on j)))
+      let rest = all-parts k (j + length (part j)) (omega (arith, gets-on n ls short j (omega arith))) in
+      rw e (ap (λ (xs : List ℕ). concat (part j) ++ xs) rest ∙ sym (goes-on j)))
 
 pub formula-parts : (file : List ℕ) (n : ℕ) → 1024 ≤ n → partsFrom n (formulaLines file) (length (formulaLines file)) 0 ≡ formulaText file
 formula-parts file n h =
