@@ -191,7 +191,8 @@ fn print_parts<'a, 'b>(file: &'a [u8], text: &'b mut [u8])
     }
 }
 
-// Writes what `formula` writes for a table, part by part, each of at most so many bytes.
+// Writes what `formula` writes for a table, part by part, each of at most so many bytes. There is no outcome to state here and below:
+// nothing comes back, nothing is lent to be written, and what arrives on standard output no contract of the system's calls says.
 pub fn print_formula(file: &[u8], room: usize) {
     let mut text = text_buffer();
     let n = room_for(room);
