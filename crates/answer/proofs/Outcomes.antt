@@ -22,6 +22,7 @@ use Rattle.answer.specs.Parts.{Took, Showed, ShowedAnswer}
 use Rattle.answer.specs.declared.Taken.{Taken}
 use Rattle.answer.specs.declared.Listed.{Listed}
 use Rattle.answer.specs.declared.Listed.the-variants.{Refused}
+use Rattle.table.specs.Layout.{tableIn}
 
 -- Taking an answer -----------------------------------------------------------------------------------------------------------------
 module _ (file : List ℕ) (tree : List Node) (answer values : List ℕ) where
@@ -37,7 +38,7 @@ module _ (file : List ℕ) (tree : List Node) (answer values : List ℕ) where
   pub take-short-values : length values < 8191 → (enoughTree tree && enoughValues values) ≡ false
   take-short-values h = rw (leb-no 8191 (length values) h) (and-off (enoughTree tree))
 
-  module _ (h : 1024 ≤ length tree) (k : 8191 ≤ length values) {T : Table} {p : Prepared} (prepared : IsPrepared file T p) where
+  module _ (h : 1024 ≤ length tree) (k : 8191 ≤ length values) {p : Prepared} (prepared : IsPrepared file p) where
     enough : (enoughTree tree && enoughValues values) ≡ true
     enough = rw (leb-in 1024 (length tree) h, leb-in 8191 (length values) k)
 
@@ -47,7 +48,7 @@ module _ (file : List ℕ) (tree : List Node) (answer values : List ℕ) where
       sym (asked-unmet file (questionsTaking tree answer) (λ n. values) (λ T. bits (answered T answer) ++ drop (variables T) values) prepared enough u),
     )
 
-    pub take-met : {values′ : List ℕ} {r : Taken} → p .question ≡ 0 → Took T tree answer values values′ r
+    pub take-met : {values′ : List ℕ} {r : Taken} → p .question ≡ 0 → Took (tableIn (p .table)) tree answer values values′ r
         → (takenFrom r ≡ taking file tree answer values) × (values′ ≡ valuesAfter file tree answer values)
     take-met z t = (
       t .handed-back ∙ sym (asked-met file (questionsTaking tree answer) turnedDown (λ T. taken (variables T ∷ [])) prepared enough z),
@@ -74,7 +75,7 @@ module _ (file : List ℕ) (tree : List Node) (values text : List ℕ) where
   pub list-short-text : length text < 24576 → lentEnough ≡ false
   list-short-text h = rw (leb-no 24576 (length text) h, and-off (enoughValues values)) (and-off (enoughTree tree))
 
-  module _ (h : 1024 ≤ length tree) (k : 8191 ≤ length values) (l : 24576 ≤ length text) {T : Table} {p : Prepared} (prepared : IsPrepared file T p) where
+  module _ (h : 1024 ≤ length tree) (k : 8191 ≤ length values) (l : 24576 ≤ length text) {p : Prepared} (prepared : IsPrepared file p) where
     all-enough : lentEnough ≡ true
     all-enough = rw (leb-in 1024 (length tree) h, leb-in 8191 (length values) k, leb-in 24576 (length text) l)
 
@@ -84,7 +85,7 @@ module _ (file : List ℕ) (tree : List Node) (values text : List ℕ) where
       sym (asked-unmet file (questionsListing tree values) (λ n. text) (λ T. shown file values T ++ drop (length (shown file values T)) text) prepared all-enough u),
     )
 
-    pub list-met : {text′ : List ℕ} {r : Listed} → p .question ≡ 0 → Showed file T tree values text text′ r
+    pub list-met : {text′ : List ℕ} {r : Listed} → p .question ≡ 0 → Showed file (tableIn (p .table)) tree values text text′ r
         → (listedFrom r ≡ showing file tree values text) × (text′ ≡ listingAfter file tree values text)
     list-met z s = (
       s .handed-back ∙ sym (asked-met file (questionsListing tree values) turnedDown (λ T. taken (length (shown file values T) ∷ [])) prepared all-enough z),
@@ -109,7 +110,7 @@ module _ (file answer text : List ℕ) where
         sym (asked-short file (questionsOfAnswer answer) (λ n. text) leaves e),
       )
 
-  module _ (k : 24576 ≤ length text) {T : Table} {p : Prepared} (prepared : IsPrepared file T p) where
+  module _ (k : 24576 ≤ length text) {p : Prepared} (prepared : IsPrepared file p) where
     pub answer-unmet : (p .question ≡ 0 → ⊥) → AnswerListed (Refused (p .question)) text
     answer-unmet u =
         let e = leb-in 24576 (length text) k in (
@@ -117,7 +118,7 @@ module _ (file answer text : List ℕ) where
           sym (asked-unmet file (questionsOfAnswer answer) (λ n. text) leaves prepared e u),
         )
 
-    pub answer-met : {text′ : List ℕ} {r : Listed} → p .question ≡ 0 → ShowedAnswer file T answer text text′ r → AnswerListed r text′
+    pub answer-met : {text′ : List ℕ} {r : Listed} → p .question ≡ 0 → ShowedAnswer file (tableIn (p .table)) answer text text′ r → AnswerListed r text′
     answer-met z s =
         let e = leb-in 24576 (length text) k in (
           s .handed-back ∙ sym (asked-met file (questionsOfAnswer answer) turnedDown answers prepared e z),

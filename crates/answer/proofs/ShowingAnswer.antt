@@ -1,6 +1,6 @@
 -- What the part of the call that lists an answer's procedure leaves, question by question.
 -- By the first question that is not met; where all are met the answer's values are a model, and it gives a tree.
-use mathlib.Core.Path.{_≡_, refl, sym, ap, ap₂, _∙_, subst}
+use mathlib.Core.Path.{_≡_, refl, sym, ap, ap₂, _∙_}
 use mathlib.Core.Bool.{Bool, true, false, not}
 use mathlib.Core.List.{List, [], _∷_, _++_}
 use Prim.Native.Nat.{ℕ, zero, suc, _≤_}
@@ -14,22 +14,19 @@ use Rattle.planning.specs.Record.{records}
 use Rattle.planning.specs.Variable.{variables}
 use Rattle.planning.specs.Clause.{formula}
 use Rattle.planning.specs.Model.{value, satisfies, truthsIn}
-use Rattle.table.specs.Layout.{namePartsFrom}
+use Rattle.table.specs.Layout.{tableIn, namePartsIn}
 use Rattle.tree.specs.Words.{treeWords}
 use Rattle.shape.specs.Shape.{Indexed}
 use Rattle.solver.specs.Scan.{Heard}
 use Rattle.listing.specs.Listing.{Names, shownNames}
-use Rattle.listing.specs.Walk.{ShortNames}
 use Rattle.listing.specs.Walk.{walked, valueOf, Listable}
 use Rattle.questions.specs.Questions.{namesOf, taken}
-use Rattle.questions.specs.Parts.{IsPrepared}
-use Rattle.questions.specs.declared.Prepared.{Prepared}
+use Rattle.questions.specs.Parts.{AcceptedAs}
 use Rattle.answer.specs.Calls.{questionsOfAnswer, shownAnswer}
 use Rattle.answer.specs.Parts.{ShowedAnswer}
 use Rattle.answer.specs.declared.Listed.the-variants.{Refused, Written}
-use Rattle.answer.proofs.Acceptance.{short-names}
 use Rattle.answer.proofs.Answered as answered
-use Rattle.answer.proofs.Lending.{prepared-as, own-names}
+use Rattle.answer.proofs.Lending.{own-names, names-short}
 use Rattle.answer.proofs.Showing.{model-walked}
 
 refused-by : {file : List ℕ} {T : Table} {answer text : List ℕ} {q : ℕ} → firstUnmet (questionsOfAnswer answer T) ≡ q → (q ≡ 0 → ⊥)
@@ -40,34 +37,37 @@ refused-by {file} {T} {answer} {text} {q} e u = go q e u
     go zero e u = absurd (u refl)
     go (suc n) e u = record { handed-back = sym (rw e); left = sym (rw e) }
 
-module _ (file : List ℕ) {T : Table} {p : Prepared} (prepared : IsPrepared file T p) (z : p .question ≡ 0) (answer text : List ℕ) {q : ℕ} {cells : List ℕ} (h : Heard (p .variables) answer cells q) where
+module _ (file : List ℕ) {ws : List ℕ} (stands : AcceptedAs file ws) {n : ℕ} (e : n ≡ variables (tableIn ws)) (answer text : List ℕ) {q : ℕ} {cells : List ℕ}
+    (h : Heard n answer cells q) where
+  abbrev T : Table
+  T = tableIn ws
+
   abbrev heardValues : List ℕ
-  heardValues = take (p .variables) cells
+  heardValues = take n cells
 
   pub not-heard : (q ≡ 0 → ⊥) → ShowedAnswer file T answer text text (Refused q)
-  not-heard u = refused-by (answered.not-heard T answer (prepared .variables z) h u) u
+  not-heard u = refused-by (answered.not-heard T answer e h u) u
 
   module _ (y : q ≡ 0) {b : Bool} (s : b ≡ satisfies (value (truthsIn heardValues)) (formula T)) where
     pub not-model : not b ≡ true → ShowedAnswer file T answer text text (Refused 15)
-    not-model f = refused-by (answered.not-model T answer (prepared .variables z) h y s f) (λ z. omega arith)
+    not-model f = refused-by (answered.not-model T answer e h y s f) (λ z. omega arith)
 
     -- what the listing is lent
-    pub listable : {ix tree : List ℕ} → Indexed T ix → tree ≡ treeWords (records T) → Listable (p .table) file T ix tree heardValues
+    pub listable : {ix tree : List ℕ} → Indexed T ix → tree ≡ treeWords (records T) → Listable ws file T ix tree heardValues
     listable x t = record {
       indexed = x;
       words = t;
-      long = omega (arith, answered.same-length T answer (prepared .variables z) h y);
-      short = subst (λ (N : Names). ShortNames N) (sym (own-names file prepared z)) (short-names file T (prepared-as file prepared z));
+      long = omega (arith, answered.same-length T answer e h y);
+      short = names-short file stands;
     }
 
     pub showed : not b ≡ false → {text′ : List ℕ} {r : ℕ}
-        → Wrote text 0 (walked T (shownNames file (namePartsFrom (p .table))) (valueOf heardValues)) text′ r → ShowedAnswer file T answer text text′ (Written r)
+        → Wrote text 0 (walked T (shownNames file (namePartsIn ws)) (valueOf heardValues)) text′ r → ShowedAnswer file T answer text text′ (Written r)
     showed f {text′} {r} w =
-        let e = prepared .variables z in
         let u : firstUnmet (questionsOfAnswer answer T) ≡ 0 = answered.all-met T answer e h y s f in
         let m = answered.answered-model T answer (answered.satisfied T answer e h y s f) in
-        let k : walked T (shownNames file (namePartsFrom (p .table))) (valueOf heardValues) ≡ shownAnswer file answer T =
-        ap₂ (λ (N : Names) (vs : List Bool). walked T N (value vs)) (own-names file prepared z) (answered.same-truths T answer e h y) ∙ model-walked T (prepared .accepted z) file m in
+        let k : walked T (shownNames file (namePartsIn ws)) (valueOf heardValues) ≡ shownAnswer file answer T =
+        ap₂ (λ (N : Names) (vs : List Bool). walked T N (value vs)) (own-names file stands) (answered.same-truths T answer e h y) ∙ model-walked T (stands .table) file m in
         let j : r ≡ length (shownAnswer file answer T) = omega (arith, w .end, ap length k) in
         record {
           handed-back = ap (λ (j : ℕ). taken (j ∷ [])) j ∙ sym (rw u);

@@ -5,16 +5,16 @@ ghost use Prim.Native.Nat.{_≤_};
 ghost use lib.Dec.{leb};
 ghost use lib.ListN.{length};
 ghost use Rattle.lists.specs.List.{all};
+ghost use Rattle.planning.specs.Place.{rootPlace, nodes as nodesOf};
 ghost use Rattle.planning.specs.Variable.{variables as variablesOf};
 ghost use Rattle.planning.specs.Accepted.{Accepted as AcceptedTable};
 ghost use Rattle.nodes.specs.Nodes.{recordsIn, lentIn};
-ghost use Rattle.sheet.specs.Sheet.{tableIn};
-ghost use Rattle.questions.specs.Parts.{IsPrepared};
+ghost use Rattle.table.specs.Layout.{tableIn};
+ghost use Rattle.questions.specs.Parts.{AcceptedAs};
 ghost use Rattle.answer.specs.Calls.{takenFrom, taking, valuesAfter, listedFrom, showing, listingAfter};
 ghost use Rattle.answer.specs.Parts.{Took, Showed};
 use super::Listed;
 use super::Taken;
-use questions::Prepared;
 
 // Taking an answer -------------------------------------------------------------------------------------------------------------
 // Questions 10 and 12 to 15. The values are held apart until all are met.
@@ -65,12 +65,11 @@ pub fn take_answer(
     if values.len() < 8191 {
         return Taken::Refused(1);
     }
-    let mut ws = [0u64; 1479];
-    let p = questions::prepare(file, &mut ws);
+    let p = questions::prepare(file);
     if p.question != 0 {
         return Taken::Refused(p.question);
     }
-    take_values(&ws, words, answer, p.variables, values)
+    take_values(&p.table, words, answer, p.variables, values)
 }
 
 // Listing a procedure ----------------------------------------------------------------------------------------------------------
@@ -90,15 +89,16 @@ fn are_binary(values: &[u8]) -> bool
 
 // Questions 10, 14 and 15, and the lines.
 fn list_lines<'a, 'b, 'c, 'd>(
-    p: Prepared,
     file: &'a [u8],
     ws: &'b [u64],
+    nodes: usize,
+    n: usize,
     words: &'b [u64],
     values: &'c [u8],
     text: &'d mut [u8],
 ) -> Listed
-    requires { ⌜ IsPrepared (now file) (tableIn (now ws)) p × (p .question ≡ 0) × (5120 ≤ length (now words)) × (8191 ≤ length (now values))
-        × (24576 ≤ length (now text)) ⌝ }
+    requires { ⌜ AcceptedAs (now file) (now ws) × (nodes ≡ nodesOf (rootPlace (tableIn (now ws)))) × (n ≡ variablesOf (tableIn (now ws)))
+        × (5120 ≤ length (now words)) × (8191 ≤ length (now values)) × (24576 ≤ length (now text)) ⌝ }
     ensures { λ r. ⌜ Showed (now (file .entry)) (tableIn (now (ws .entry))) (recordsIn (now (words .entry))) (now (values .entry)) (now (text .entry))
         (now (text .exit)) r ⌝ }
 {
@@ -107,16 +107,14 @@ fn list_lines<'a, 'b, 'c, 'd>(
     if m == 0 {
         return Listed::Refused(10);
     }
-    let n = p.variables;
     if !are_binary(&values[..n]) {
         return Listed::Refused(14);
     }
     if !model::is_model(ws, &ix[..m], &values[..n]) {
         return Listed::Refused(15);
     }
-    let t = p.table;
-    let k = p.nodes * 5;
-    let e = listing::write(t, file, ws, &ix[..m], &words[..k], &values[..n], text);
+    let k = nodes * 5;
+    let e = listing::write(file, ws, &ix[..m], &words[..k], &values[..n], text);
     Listed::Written(e)
 }
 
@@ -143,10 +141,9 @@ pub fn list_procedure(
     if text.len() < 24576 {
         return Listed::Refused(1);
     }
-    let mut ws = [0u64; 1479];
-    let p = questions::prepare(file, &mut ws);
+    let p = questions::prepare(file);
     if p.question != 0 {
         return Listed::Refused(p.question);
     }
-    list_lines(p, file, &ws, words, values, text)
+    list_lines(file, &p.table, p.nodes, p.variables, words, values, text)
 }

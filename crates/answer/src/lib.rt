@@ -5,12 +5,12 @@ mod flat;
 ghost use mathlib.Core.Path.{_≡_};
 ghost use Prim.Native.Nat.{_≤_};
 ghost use lib.ListN.{length};
-ghost use Rattle.sheet.specs.Sheet.{tableIn};
-ghost use Rattle.questions.specs.Parts.{IsPrepared};
+ghost use Rattle.planning.specs.Variable.{variables as variablesOf};
+ghost use Rattle.table.specs.Layout.{tableIn};
+ghost use Rattle.questions.specs.Parts.{AcceptedAs};
 ghost use Rattle.answer.specs.Calls.{takenFrom, taking, valuesAfter, listedFrom, showing, listingAfter, showingAnswer, answerListingAfter};
 ghost use Rattle.answer.specs.Parts.{ShowedAnswer};
 use nodes::Node;
-use questions::Prepared;
 
 // The answers: the number of a question that is not met, or the values.
 pub enum Taken {
@@ -43,20 +43,19 @@ pub fn list_procedure(file: &[u8], tree: &[Node], values: &[u8], text: &mut [u8]
 
 // Questions 12 to 15, and the lines, by the table's own records.
 fn list_heard<'a, 'b, 'c, 'd>(
-    p: Prepared,
     file: &'a [u8],
     ws: &'b [u64],
+    n: usize,
     answer: &'c [u8],
     text: &'d mut [u8],
 ) -> Listed
-    requires { ⌜ IsPrepared (now file) (tableIn (now ws)) p × (p .question ≡ 0) × (24576 ≤ length (now text)) ⌝ }
+    requires { ⌜ AcceptedAs (now file) (now ws) × (n ≡ variablesOf (tableIn (now ws))) × (24576 ≤ length (now text)) ⌝ }
     ensures { λ r. ⌜ ShowedAnswer (now (file .entry)) (tableIn (now (ws .entry))) (now (answer .entry)) (now (text .entry)) (now (text .exit)) r ⌝ }
 {
     let mut words = [0u64; 5120];
     let k = tree::build(ws, &mut words);
     let mut ix = [0u64; 24578];
     let m = indexing::fill(ws, &words[..k], &mut ix);
-    let n = p.variables;
     let mut heard = [0u8; 8191];
     let q = cells::read(answer, n, &mut heard);
     if q != 0 {
@@ -65,8 +64,7 @@ fn list_heard<'a, 'b, 'c, 'd>(
     if !model::is_model(ws, &ix[..m], &heard[..n]) {
         return Listed::Refused(15);
     }
-    let t = p.table;
-    let e = listing::write(t, file, ws, &ix[..m], &words[..k], &heard[..n], text);
+    let e = listing::write(file, ws, &ix[..m], &words[..k], &heard[..n], text);
     Listed::Written(e)
 }
 
@@ -78,10 +76,9 @@ pub fn list_answer(file: &[u8], answer: &[u8], text: &mut [u8]) -> Listed
     if text.len() < 24576 {
         return Listed::Refused(1);
     }
-    let mut ws = [0u64; 1479];
-    let p = questions::prepare(file, &mut ws);
+    let p = questions::prepare(file);
     if p.question != 0 {
         return Listed::Refused(p.question);
     }
-    list_heard(p, file, &ws, answer, text)
+    list_heard(file, &p.table, p.variables, answer, text)
 }

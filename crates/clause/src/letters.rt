@@ -1,4 +1,4 @@
-// Rule 2: the clauses (a) to (g) of a node. `ws` is the table's sheet and `ix` its index.
+// Rule 2: the clauses (a) to (g) of a node. `ws` is the table and `ix` its index.
 ghost use Prim.Native.Nat.{_+_, _≤_, _<_};
 ghost use lib.Dec.{eqb};
 ghost use lib.ListN.{length};
@@ -7,7 +7,7 @@ ghost use Rattle.lists.specs.Written.{Wrote};
 ghost use Rattle.planning.specs.Table.{job, step, jobOf, bodyOf};
 ghost use Rattle.planning.specs.Clause.{allPos, varOf};
 ghost use Rattle.table.specs.Layout.{taskFrom};
-ghost use Rattle.sheet.specs.Sheet.{tableIn};
+ghost use Rattle.table.specs.Layout.{tableIn};
 ghost use Rattle.places.specs.Nest.{at};
 ghost use Rattle.places.specs.Flat.{tasksAt, methodVarsAt};
 ghost use Rattle.places.specs.ClausePlace.{methodAt, methodsOf, jobOfMethod, bodyTask, inherited as inheritedPlace, up as upPlace, rowLen, placeAt};
@@ -98,7 +98,7 @@ fn put_methods<'a, 'b>(
     while x < k {
         let m = shape::method(ws, ix, n, x);
         let v = method_variable(ws, ix, n, x);
-        a = put_if(out, a, v, sheet::job_of(ws, m) == j);
+        a = put_if(out, a, v, table::job_of(ws, m) == j);
         x += 1;
     }
     a
@@ -145,7 +145,7 @@ fn job_of_method<'a, 'b>(
     requires { ⌜ InNode (tableIn (now ws)) (now ix) n × (x < length ((node (tableIn (now ws)) n) .methods)) × (136 ≤ length (now out)) ⌝ }
     ensures { λ r. ⌜ Wrote (now (out .entry)) 0 (codes (literalsOf (source (tableIn (now (ws .entry)))) (jobOfMethod n x))) (now (out .exit)) r ⌝ }
 {
-    let j = sheet::job_of(ws, shape::method(ws, ix, n, x));
+    let j = table::job_of(ws, shape::method(ws, ix, n, x));
     let a = put(out, 0, method_variable(ws, ix, n, x), false);
     put_job(ws, ix, out, a, n, j)
 }
@@ -164,7 +164,7 @@ fn body_task<'a, 'b>(
         × (136 ≤ length (now out)) ⌝ }
     ensures { λ r. ⌜ Wrote (now (out .entry)) 0 (codes (literalsOf (source (tableIn (now (ws .entry)))) (bodyTask n x y))) (now (out .exit)) r ⌝ }
 {
-    let t = sheet::task(ws, shape::method(ws, ix, n, x), y);
+    let t = table::body_task(ws, shape::method(ws, ix, n, x), y);
     let a = put(out, 0, method_variable(ws, ix, n, x), false);
     put_task(ws, ix, out, a, shape::child(ws, ix, n, y), t)
 }

@@ -1,5 +1,5 @@
-// The literals of one clause, by its place, written as numbers: 2 * v for variable v, 2 * v + 1 for v negated. `ws` is the table's
-// sheet and `ix` its index.
+// The literals of one clause, by its place, written as numbers: 2 * v for variable v, 2 * v + 1 for v negated. `ws` is the table
+// and `ix` its index.
 mod letters;
 pub mod lookup;
 mod slots;
@@ -9,7 +9,7 @@ ghost use mathlib.Core.List.{map};
 ghost use Prim.Native.Nat.{_≤_, _<_};
 ghost use lib.ListN.{length};
 ghost use Rattle.lists.specs.Written.{Wrote};
-ghost use Rattle.sheet.specs.Sheet.{tableIn};
+ghost use Rattle.table.specs.Layout.{tableIn};
 ghost use Rattle.writer.specs.Literal.{codeOf};
 ghost use Rattle.places.specs.Nest.{at};
 ghost use Rattle.places.specs.ClausePlace.{rowLen, placeAt, literals as literalsOf};
@@ -33,7 +33,7 @@ pub fn literals<'a, 'b>(
         (placeAt (source (tableIn (now (ws .entry)))) (at r n g x y i)))) (now (out .exit)) k ⌝ }
 {
     match r {
-        0 => letters::put_job(ws, ix, out, 0, 0, sheet::root(ws)),
+        0 => letters::put_job(ws, ix, out, 0, 0, table::root(ws)),
         1 => letters::node_clause(ws, ix, out, n, g, x, y, i),
         2 => slots::start(ws, ix, out, i),
         _ => slots::slot_clause(ws, ix, out, n, g, x, y, i),

@@ -1,11 +1,11 @@
-// The variables of nodes, children and facts, and what they stand for. `ws` is the table's sheet and `ix` its index.
+// The variables of nodes, children and facts, and what they stand for. `ws` is the table and `ix` its index.
 ghost use mathlib.Core.Path.{_≡_};
 ghost use mathlib.Core.List.{[], _∷_};
 ghost use Prim.Native.Nat.{_+_, _≤_, _<_};
 ghost use lib.ListN.{length, getD};
 ghost use Rattle.bitset.specs.Set.{contains, members};
 ghost use Rattle.planning.specs.Variable.{factVar};
-ghost use Rattle.sheet.specs.Sheet.{tableIn};
+ghost use Rattle.table.specs.Layout.{tableIn};
 ghost use Rattle.places.specs.Lookup.{rank};
 ghost use Rattle.places.specs.ClausePlace.{childAt, methodVar};
 ghost use Rattle.index.specs.Index.{source};
@@ -62,7 +62,7 @@ pub fn fact_variable(ws: &[u64], ix: &[u64], b: usize, f: usize) -> usize
     requires { ⌜ Indexed (tableIn (now ws)) (now ix) × (b ≤ 1024) × (f < 64) ⌝ }
     ensures { λ r. ⌜ (r ≡ factVar (tableIn (now (ws .entry))) ((source (tableIn (now (ws .entry)))) .facts) b f) × (r < 100000) ⌝ }
 {
-    index::first_fact(ix) + b * sheet::facts(ws) + f
+    index::first_fact(ix) + b * table::facts(ws) + f
 }
 
 // What variables stand for: step x and job x of node n.

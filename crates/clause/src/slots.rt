@@ -1,4 +1,4 @@
-// Rules 3 and 4: facts at the start, and the clauses of a slot. `ws` is the table's sheet and `ix` its index.
+// Rules 3 and 4: facts at the start, and the clauses of a slot. `ws` is the table and `ix` its index.
 ghost use mathlib.Core.Path.{_≡_};
 ghost use Prim.Native.Nat.{_+_, _≤_, _<_};
 ghost use lib.ListN.{length, getD};
@@ -7,7 +7,7 @@ ghost use Rattle.lists.specs.Written.{Wrote};
 ghost use Rattle.planning.specs.Table.{stepOf};
 ghost use Rattle.planning.specs.Accepted.{Accepted};
 ghost use Rattle.planning.specs.Clause.{allPos, drops as dropsFact};
-ghost use Rattle.sheet.specs.Sheet.{tableIn};
+ghost use Rattle.table.specs.Layout.{tableIn};
 ghost use Rattle.places.specs.Nest.{at};
 ghost use Rattle.places.specs.ClausePlace.{slotAt, start as startPlace, fall as fallPlace, rise as risePlace, effectFacts, rowLen, placeAt};
 ghost use Rattle.places.specs.ClausePlace.{literals as literalsOf};
@@ -24,7 +24,7 @@ pub fn start<'a, 'b>(ws: &'a [u64], ix: &'a [u64], out: &'b mut [u64], f: usize)
     requires { ⌜ Indexed (tableIn (now ws)) (now ix) × (f < 64) × (136 ≤ length (now out)) ⌝ }
     ensures { λ r. ⌜ Wrote (now (out .entry)) 0 (codes (literalsOf (source (tableIn (now (ws .entry)))) (startPlace f))) (now (out .exit)) r ⌝ }
 {
-    let facts = sheet::start(ws);
+    let facts = table::start(ws);
     put(out, 0, fact_variable(ws, ix, 0, f), bitset::has(&facts, f))
 }
 
@@ -77,7 +77,7 @@ fn sets(ws: &[u64], s: usize, f: usize) -> bool
     requires { ⌜ s < 64 ⌝ }
     ensures { λ r. ⌜ r ≡ has ((stepOf (tableIn (now (ws .entry))) s) .sets) f ⌝ }
 {
-    let facts = sheet::sets(ws, s);
+    let facts = table::sets(ws, s);
     bitset::has(&facts, f)
 }
 
@@ -88,7 +88,7 @@ fn drops(ws: &[u64], s: usize, f: usize) -> bool
     if sets(ws, s, f) {
         return false;
     }
-    let facts = sheet::clears(ws, s);
+    let facts = table::clears(ws, s);
     bitset::has(&facts, f)
 }
 

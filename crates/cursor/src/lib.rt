@@ -1,4 +1,4 @@
-// The clause cursor: seven numbers by value. Its method hands back the next clause's place and itself advanced. `ws` is the table's sheet
+// The clause cursor: seven numbers by value. Its method hands back the next clause's place and itself advanced. `ws` is the table
 // and `ix` its index.
 ghost use mathlib.Core.Path.{_≡_};
 ghost use Prim.Native.Nat.{_+_, _≤_, _<_};
@@ -6,7 +6,7 @@ ghost use lib.ListN.{length, getD};
 ghost use Rattle.places.specs.Nest.{at};
 ghost use Rattle.places.specs.ClausePlace.{nodesIn, slotAt};
 ghost use Rattle.places.specs.Total.{sumTo, pairCount, widthsTo, bodyCount, passCount, nodeCount, effectCount, slotCount, countAt, clauseCount};
-ghost use Rattle.sheet.specs.Sheet.{tableIn};
+ghost use Rattle.table.specs.Layout.{tableIn};
 ghost use Rattle.index.specs.Index.{source};
 ghost use Rattle.shape.specs.Shape.{node, Indexed, InNode, InSlot, InGroup};
 ghost use Rattle.cursor.specs.Cursor.{ofPos, atEnd, nextOf, Means, Stands, In, Handed, Moved, NodePassed, SoughtRow, Found};
@@ -224,7 +224,7 @@ fn count_slot(ws: &[u64], ix: &[u64], n: usize) -> usize
         k += count_effects(ws, ix, n, x);
         x += 1;
     }
-    let f = sheet::facts(ws);
+    let f = table::facts(ws);
     k + (f + f)
 }
 
@@ -240,7 +240,7 @@ pub fn count_node(ws: &[u64], ix: &[u64], r: usize, n: usize) -> usize
         return count_slot(ws, ix, n);
     }
     if r == 2 {
-        return sheet::facts(ws);
+        return table::facts(ws);
     }
     1
 }

@@ -33,6 +33,7 @@ use Rattle.questions.specs.Parts.{IsPrepared}
 use Rattle.questions.specs.declared.Prepared.{Prepared}
 use Rattle.questions.proofs.Asked.{asked-short, asked-unmet, asked-met}
 use Rattle.questions.proofs.Compared.{tree-words}
+use Rattle.table.specs.Layout.{tableIn}
 
 -- Questions 10 and 11 ----------------------------------------------------------------------------------------------------------
 module _ (T : Table) (line : ℕ) {o : List ℕ} where
@@ -67,11 +68,11 @@ pub all-lent : {T : Table} {lent line : ℕ} {o o′ : List ℕ} {r : Text} (wor
 all-lent {T} {lent} {line} {o} {o′} {r} words k h l = subst (λ (tree : List Node). TreeLined T tree line o o′ r) (sym (lent-all words k h)) l
 
 -- The calls --------------------------------------------------------------------------------------------------------------------
-module _ (file : List ℕ) {T : Table} {p : Prepared} (prepared : IsPrepared file T p) where
+module _ (file : List ℕ) {p : Prepared} (prepared : IsPrepared file p) where
   pub check-unmet : (p .question ≡ 0 → ⊥) → turnedDown (p .question) ≡ checking file
   check-unmet u = sym (asked-unmet file (λ T. []) turnedDown (λ T. taken (nodes (rootPlace T) ∷ variables T ∷ length (formula T) ∷ [])) prepared {b = true} refl u)
 
-  pub check-met : {k : ℕ} → p .question ≡ 0 → k ≡ length (formula T) → taken (p .nodes ∷ p .variables ∷ k ∷ []) ≡ checking file
+  pub check-met : {k : ℕ} → p .question ≡ 0 → k ≡ length (formula (tableIn (p .table))) → taken (p .nodes ∷ p .variables ∷ k ∷ []) ≡ checking file
   check-met {k} z e =
       rw (prepared .nodes z, prepared .variables z, e)
       (sym (asked-met file (λ T. []) turnedDown (λ T. taken (nodes (rootPlace T) ∷ variables T ∷ length (formula T) ∷ [])) prepared {b = true} refl z))
@@ -84,7 +85,7 @@ module _ (file : List ℕ) (lent : ℕ) (words : List ℕ) where
         sym (asked-short file (λ T. []) (λ n. words) (λ T. wordsOf (treeOf T) ++ drop (length (wordsOf (treeOf T))) words) e),
       )
 
-  module _ (l : 5120 ≤ length words) (h : 1024 ≤ lent) {T : Table} {p : Prepared} (prepared : IsPrepared file T p) where
+  module _ (l : 5120 ≤ length words) (h : 1024 ≤ lent) {p : Prepared} (prepared : IsPrepared file p) where
     tree-enough : enoughTree (lentIn lent words) ≡ true
     tree-enough = leb-in 1024 (length (lentIn lent words)) (lent-enough words l h)
 
@@ -94,11 +95,11 @@ module _ (file : List ℕ) (lent : ℕ) (words : List ℕ) where
       sym (asked-unmet file (λ T. []) (λ n. words) (λ T. wordsOf (treeOf T) ++ drop (length (wordsOf (treeOf T))) words) prepared tree-enough u),
     )
 
-    pub build-met : {words′ : List ℕ} {r : ℕ} → p .question ≡ 0 → Wrote words 0 (treeWords (records T)) words′ r
+    pub build-met : {words′ : List ℕ} {r : ℕ} → p .question ≡ 0 → Wrote words 0 (treeWords (records (tableIn (p .table)))) words′ r
         → (taken (p .nodes ∷ []) ≡ building file (lentIn lent words)) × (words′ ≡ wordsAfter file lent words)
     build-met {words′} {r} z w = (
       rw (prepared .nodes z) (sym (asked-met file (λ T. []) turnedDown (λ T. taken (nodes (rootPlace T) ∷ [])) prepared tree-enough z)),
-      wrote-whole w ∙ ap (λ (l : List ℕ). l ++ drop (length l) words) (tree-words (records T)) ∙ sym (asked-met file (λ T. []) (λ n. words) (λ T. wordsOf (treeOf T) ++ drop (length (wordsOf (treeOf T))) words) prepared tree-enough z),
+      wrote-whole w ∙ ap (λ (l : List ℕ). l ++ drop (length l) words) (tree-words (records (tableIn (p .table)))) ∙ sym (asked-met file (λ T. []) (λ n. words) (λ T. wordsOf (treeOf T) ++ drop (length (wordsOf (treeOf T))) words) prepared tree-enough z),
     )
 
 module _ (file : List ℕ) (tree : List Node) (line : ℕ) (text : List ℕ) where
@@ -114,7 +115,7 @@ module _ (file : List ℕ) (tree : List Node) (line : ℕ) (text : List ℕ) whe
   pub short-text : length text < 1024 → (enoughTree tree && enoughText text) ≡ false
   short-text h = rw (leb-no 1024 (length text) h) (and-off (enoughTree tree))
 
-  module _ (h : 1024 ≤ length tree) (k : 1024 ≤ length text) {T : Table} {p : Prepared} (prepared : IsPrepared file T p) where
+  module _ (h : 1024 ≤ length tree) (k : 1024 ≤ length text) {p : Prepared} (prepared : IsPrepared file p) where
     enough : (enoughTree tree && enoughText text) ≡ true
     enough = rw (leb-in 1024 (length tree) h, leb-in 1024 (length text) k)
 
@@ -124,7 +125,7 @@ module _ (file : List ℕ) (tree : List Node) (line : ℕ) (text : List ℕ) whe
       sym (asked-unmet file (questionsWriting tree line) (λ n. text) (λ T. written T line (length text) ++ drop (bytesUsed T line (length text)) text) prepared enough u),
     )
 
-    pub text-met : {text′ : List ℕ} {r : Text} → p .question ≡ 0 → TreeLined T tree line text text′ r
+    pub text-met : {text′ : List ℕ} {r : Text} → p .question ≡ 0 → TreeLined (tableIn (p .table)) tree line text text′ r
         → (textFrom r ≡ writing file tree line text) × (text′ ≡ textAfter file tree line text)
     text-met z l = (
       l .answer ∙ sym (asked-met file (questionsWriting tree line) turnedDown (λ T. taken (bytesUsed T line (length text) ∷ nextLine T line (length text) ∷ [])) prepared enough z),
@@ -146,7 +147,7 @@ module _ (file : List ℕ) (line : ℕ) (text : List ℕ) where
       let e = leb-no 1024 (length text) h in
       (sym (asked-short file (questionsOfLine line) turnedDown answers e), sym (asked-short file (questionsOfLine line) (λ n. text) leaves e))
 
-  module _ (k : 1024 ≤ length text) {T : Table} {p : Prepared} (prepared : IsPrepared file T p) where
+  module _ (k : 1024 ≤ length text) {p : Prepared} (prepared : IsPrepared file p) where
     pub formula-unmet : (p .question ≡ 0 → ⊥) → Outcome (Refused (p .question)) text
     formula-unmet u =
         let e = leb-in 1024 (length text) k in (
@@ -154,7 +155,7 @@ module _ (file : List ℕ) (line : ℕ) (text : List ℕ) where
           sym (asked-unmet file (questionsOfLine line) (λ n. text) leaves prepared e u),
         )
 
-    pub formula-met : {text′ : List ℕ} {r : Text} → p .question ≡ 0 → Lined T line text text′ r → Outcome r text′
+    pub formula-met : {text′ : List ℕ} {r : Text} → p .question ≡ 0 → Lined (tableIn (p .table)) line text text′ r → Outcome r text′
     formula-met z l =
         let e = leb-in 1024 (length text) k in (
           l .answer ∙ sym (asked-met file (questionsOfLine line) turnedDown answers prepared e z),

@@ -6,7 +6,7 @@ ghost use lib.ListN.{length};
 ghost use Rattle.planning.specs.Variable.{variables as variablesOf};
 ghost use Rattle.planning.specs.Accepted.{Accepted as AcceptedTable};
 ghost use Rattle.nodes.specs.Nodes.{recordsIn, lentIn};
-ghost use Rattle.sheet.specs.Sheet.{tableIn};
+ghost use Rattle.table.specs.Layout.{tableIn};
 ghost use Rattle.encoding.specs.Calls.{builtFrom, building, textFrom, writing, textAfter};
 ghost use Rattle.encoding.specs.Flat.{wordsAfter};
 ghost use Rattle.encoding.specs.Parts.{TreeLined};
@@ -25,12 +25,11 @@ pub fn build(file: &[u8], lent: usize, words: &mut [u64]) -> Built
     if words.len() < 5120 {
         return Built::Refused(1);
     }
-    let mut ws = [0u64; 1479];
-    let p = questions::prepare(file, &mut ws);
+    let p = questions::prepare(file);
     if p.question != 0 {
         return Built::Refused(p.question);
     }
-    tree::build(&ws, words);
+    tree::build(&p.table, words);
     Built::Nodes(p.nodes)
 }
 
@@ -67,10 +66,9 @@ pub fn write_text(file: &[u8], lent: usize, words: &[u64], line: usize, text: &m
     if text.len() < 1024 {
         return Text::Refused(1);
     }
-    let mut ws = [0u64; 1479];
-    let p = questions::prepare(file, &mut ws);
+    let p = questions::prepare(file);
     if p.question != 0 {
         return Text::Refused(p.question);
     }
-    write_lines(&ws, words, text, p.variables, line)
+    write_lines(&p.table, words, text, p.variables, line)
 }

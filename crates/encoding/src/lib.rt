@@ -7,7 +7,7 @@ ghost use lib.ListN.{length};
 ghost use Rattle.planning.specs.Clause.{formula};
 ghost use Rattle.planning.specs.Variable.{variables as variablesOf};
 ghost use Rattle.planning.specs.Accepted.{Accepted as AcceptedTable};
-ghost use Rattle.sheet.specs.Sheet.{tableIn};
+ghost use Rattle.table.specs.Layout.{tableIn};
 ghost use Rattle.shape.specs.Shape.{Indexed};
 ghost use Rattle.encoding.specs.Calls.{checkedFrom, checking, builtFrom, building, treeAfter};
 ghost use Rattle.encoding.specs.Calls.{textFrom, writing, textAfter, writingFormula, formulaAfter};
@@ -57,12 +57,11 @@ fn nodes_of(built: Built) -> usize
 pub fn check(file: &[u8]) -> Checked
     ensures { λ r. ⌜ checkedFrom r ≡ checking (now (file .entry)) ⌝ }
 {
-    let mut ws = [0u64; 1479];
-    let p = questions::prepare(file, &mut ws);
+    let p = questions::prepare(file);
     if p.question != 0 {
         return Checked::Refused(p.question);
     }
-    Checked::Accepted(p.nodes, p.variables, count_clauses(&ws))
+    Checked::Accepted(p.nodes, p.variables, count_clauses(&p.table))
 }
 
 // Builds the tree: questions 1 and 2 to 9. All are put before a record is written.
@@ -124,10 +123,9 @@ pub fn write_formula(file: &[u8], line: usize, text: &mut [u8]) -> Text
     if text.len() < 1024 {
         return Text::Refused(1);
     }
-    let mut ws = [0u64; 1479];
-    let p = questions::prepare(file, &mut ws);
+    let p = questions::prepare(file);
     if p.question != 0 {
         return Text::Refused(p.question);
     }
-    write_own(&ws, text, p.variables, line)
+    write_own(&p.table, text, p.variables, line)
 }

@@ -9,7 +9,7 @@ ghost use Rattle.lists.specs.List.{consIf, concatMap};
 ghost use Rattle.lists.specs.Written.{Wrote};
 ghost use Rattle.planning.specs.Place.{methodsOf};
 ghost use Rattle.planning.specs.Record.{records};
-ghost use Rattle.sheet.specs.Sheet.{tableIn};
+ghost use Rattle.table.specs.Layout.{tableIn};
 ghost use Rattle.tree.specs.Visit.{membersIn, Known};
 ghost use Rattle.places.specs.Flat.{inner, own as ownOf};
 ghost use Rattle.places.specs.Lookup.{recordAt};
@@ -30,7 +30,7 @@ fn is_inner<'a>(ws: &'a [u64], tree: &'a [u64], n: usize) -> bool
     requires { ⌜ AtNode (tableIn (now ws)) (now tree) n ⌝ }
     ensures { λ r. ⌜ r ≡ inner (tableIn (now (ws .entry))) (recordAt (records (tableIn (now (ws .entry)))) n) ⌝ }
 {
-    if (word(tree, n, 0) as usize) < sheet::depth(ws) {
+    if (word(tree, n, 0) as usize) < table::depth(ws) {
         return tree::has_some(word(tree, n, 4));
     }
     false
@@ -111,8 +111,8 @@ fn put_methods<'a, 'b>(ws: &'a [u64], out: &'b mut [u64], at: usize, jobs: u64) 
 {
     let mut a = at;
     let mut m: usize = 0;
-    while m < sheet::methods(ws) {
-        a = put_if(out, a, tree::holds(jobs, sheet::job_of(ws, m)), m);
+    while m < table::methods(ws) {
+        a = put_if(out, a, tree::holds(jobs, table::job_of(ws, m)), m);
         m += 1;
     }
     a

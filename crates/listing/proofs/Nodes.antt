@@ -18,8 +18,7 @@ use Rattle.planning.specs.Record.{Record, records}
 use Rattle.planning.specs.Model.{Valuation, chosen}
 use Rattle.planning.proofs.Task.{length-tasks}
 use Rattle.table.specs.Reading.{nameAt}
-use Rattle.table.specs.Layout.{namePartsFrom, noPart}
-use Rattle.table.specs.declared.Table.{Table as ReadTable}
+use Rattle.table.specs.Layout.{namePartsIn, noPart}
 use Rattle.tree.specs.Words.{recordWords, treeWords}
 use Rattle.places.specs.Flat.{Node, tasksAt, methodVarsAt}
 use Rattle.places.specs.ClausePlace.{tasksN, methodAt}
@@ -97,9 +96,9 @@ one-row : (js : List ℕ) (s : ℕ) → length js ≤ 0 → stepRows js s ≡ st
 one-row [] s h = refl
 one-row (j ∷ js) s h = absurd (omega arith)
 
-module _ {r : ReadTable} {file : List ℕ} {T : Table} {ix : List ℕ} {n : ℕ} {o : List ℕ} {at k : ℕ} (u : Ready r file T ix n o at k) where
+module _ {ws file : List ℕ} {T : Table} {ix : List ℕ} {n : ℕ} {o : List ℕ} {at k : ℕ} (u : Ready ws file T ix n o at k) where
   abbrev names : Names
-  names = shownNames file (namePartsFrom r)
+  names = shownNames file (namePartsIn ws)
 
   pub in-node : InNode T ix n
   in-node = record { indexed = u .indexed; there = u .there }
@@ -108,19 +107,19 @@ module _ {r : ReadTable} {file : List ℕ} {T : Table} {ix : List ℕ} {n : ℕ}
   pub handed-down : {c : ℕ} (s : ℕ) → c ≡ length ((node T n) .jobs) → 0 < c → WroteRows names o at k (stepRows ((node T n) .jobs) s) o at k
   handed-down s e h = lists-same (sym (no-rows ((node T n) .jobs) s (omega arith))) (lists-none names o at k)
 
-  pub step-name-short : {name : List ℕ} (s : ℕ) → name ≡ nameAt file (getD ((namePartsFrom r) .steps) s noPart) → length name ≤ 12
-  step-name-short s e = omega (arith, ap length (e ∙ sym (step-named file (namePartsFrom r) s)), step-short (u .short) s)
+  pub step-name-short : {name : List ℕ} (s : ℕ) → name ≡ nameAt file (getD ((namePartsIn ws) .steps) s noPart) → length name ≤ 12
+  step-name-short s e = omega (arith, ap length (e ∙ sym (step-named file (namePartsIn ws) s)), step-short (u .short) s)
 
-  pub job-name-short : {name : List ℕ} (j : ℕ) → name ≡ nameAt file (getD ((namePartsFrom r) .jobs) j noPart) → length name ≤ 12
-  job-name-short j e = omega (arith, ap length (e ∙ sym (job-named file (namePartsFrom r) j)), job-short (u .short) j)
+  pub job-name-short : {name : List ℕ} (j : ℕ) → name ≡ nameAt file (getD ((namePartsIn ws) .jobs) j noPart) → length name ≤ 12
+  job-name-short j e = omega (arith, ap length (e ∙ sym (job-named file (namePartsIn ws) j)), job-short (u .short) j)
 
-  pub step-listed : {c e : ℕ} {name o′ : List ℕ} (s : ℕ) → c ≡ length ((node T n) .jobs) → c ≤ 0 → name ≡ nameAt file (getD ((namePartsFrom r) .steps) s noPart)
+  pub step-listed : {c e : ℕ} {name o′ : List ℕ} (s : ℕ) → c ≡ length ((node T n) .jobs) → c ≤ 0 → name ≡ nameAt file (getD ((namePartsIn ws) .steps) s noPart)
       → Wrote o at (stepLine (k + 1) name) o′ e → WroteRows names o at k (stepRows ((node T n) .jobs) s) o′ e (k + 1)
   step-listed {c} {e} {name} {o′} s p h q w =
       lists-same (sym (one-row ((node T n) .jobs) s (omega arith)))
-      (lists-step names s (wrote-same (ap (stepLine (k + 1)) (q ∙ sym (step-named file (namePartsFrom r) s))) w))
+      (lists-step names s (wrote-same (ap (stepLine (k + 1)) (q ∙ sym (step-named file (namePartsIn ws) s))) w))
 
-  module _ {tree values : List ℕ} (l : Listable r file T ix tree values) where
+  module _ {tree values : List ℕ} (l : Listable ws file T ix tree values) where
     -- the node's variables have values
     pub tasks-valued : {a c : ℕ} → a ≡ (node T n) .first → c ≡ tasksN (node T n) → (1 ≤ a) × (a + c ≤ 1 + length values)
     tasks-valued {a} {c} e f = (omega (arith, first-variable T (u .there)), omega (arith, last-variable T (u .there), l .long))
@@ -138,13 +137,13 @@ module _ {r : ReadTable} {file : List ℕ} {T : Table} {ix : List ℕ} {n : ℕ}
           let e : chosen (valueOf values) (methodVarsAt (node T n)) ≡ none = found ∙ elem-past ((node T n) .methods) x (omega arith) in
           lists-same (ap (taskRows ((node T n) .jobs) ((recordAt (records T) n) .depth) (some (job j))) (sym e)) (lists-none names o at k)
 
-      pub job-listed : {m e : ℕ} {name o′ : List ℕ} (j : ℕ) → x < c → m ≡ methodAt (node T n) x → name ≡ nameAt file (getD ((namePartsFrom r) .jobs) j noPart)
+      pub job-listed : {m e : ℕ} {name o′ : List ℕ} (j : ℕ) → x < c → m ≡ methodAt (node T n) x → name ≡ nameAt file (getD ((namePartsIn ws) .jobs) j noPart)
           → Wrote o at (jobLine (getD tree (5 * n) 0) name m) o′ e → WroteRows names o at k (jobRows T (valueOf values) n j) o′ e k
       job-listed {m} {e} {name} {o′} j h g z w =
           let y : chosen (valueOf values) (methodVarsAt (node T n)) ≡ some m = found ∙ elem-in ((node T n) .methods) x (omega arith) ∙ ap (λ (i : ℕ). some i) (sym g) in
           lists-same (ap (taskRows ((node T n) .jobs) ((recordAt (records T) n) .depth) (some (job j))) (sym y))
           (lists-job names ((recordAt (records T) n) .depth) j m
-          (wrote-same (ap₂ (λ (i : ℕ) (y : List ℕ). jobLine i y m) (depth-is T (u .there) (l .words)) (z ∙ sym (job-named file (namePartsFrom r) j))) w))
+          (wrote-same (ap₂ (λ (i : ℕ) (y : List ℕ). jobLine i y m) (depth-is T (u .there) (l .words)) (z ∙ sym (job-named file (namePartsIn ws) j))) w))
 
     pub depth-low : 0 < length ((node T n) .jobs) → getD tree (5 * n) 0 < 10
     depth-low h = omega (

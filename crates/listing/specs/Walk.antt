@@ -11,8 +11,7 @@ use Rattle.planning.specs.Table.{Task, step, job, Table}
 use Rattle.planning.specs.Record.{records}
 use Rattle.planning.specs.Variable.{variables}
 use Rattle.planning.specs.Model.{Valuation, value, truthsIn, chosen}
-use Rattle.table.specs.Layout.{namePartsFrom}
-use Rattle.table.specs.declared.Table.{Table as ReadTable}
+use Rattle.table.specs.Layout.{namePartsIn}
 use Rattle.tree.specs.Words.{treeWords}
 use Rattle.places.specs.Flat.{Node, tasksAt, methodVarsAt}
 use Rattle.places.specs.Lookup.{recordAt}
@@ -61,16 +60,16 @@ abbrev pub valueOf : List ℕ → Valuation
 valueOf values = value (truthsIn values)
 
 -- a table with its index and its tree, a value for each variable, and names from the table that was read
-pub record Listable (r : ReadTable) (file : List ℕ) (T : Table) (ix tree values : List ℕ) : Type 0 where
+pub record Listable (ws file : List ℕ) (T : Table) (ix tree values : List ℕ) : Type 0 where
   pub indexed : Indexed T ix
   pub words : tree ≡ treeWords (records T)
   pub long : variables T ≤ length values
-  pub short : ShortNames (shownNames file (namePartsFrom r))
+  pub short : ShortNames (shownNames file (namePartsIn ws))
 
 -- node n of it, with room for a line in o from place at on, and k steps done before
-pub record Ready (r : ReadTable) (file : List ℕ) (T : Table) (ix : List ℕ) (n : ℕ) (o : List ℕ) (at k : ℕ) : Type 0 where
+pub record Ready (ws file : List ℕ) (T : Table) (ix : List ℕ) (n : ℕ) (o : List ℕ) (at k : ℕ) : Type 0 where
   pub indexed : Indexed T ix
-  pub short : ShortNames (shownNames file (namePartsFrom r))
+  pub short : ShortNames (shownNames file (namePartsIn ws))
   pub there : n < length ((source T) .nodes)
   pub room : at + 24 ≤ length o
   pub few : k < 1024

@@ -1,19 +1,17 @@
-// The listing of a procedure, read from values node by node. `ws` is the table's sheet, `ix` its index and `tree` its records; `t` is the
-// table that was read from `file`, where the names stand. Each `put_` function writes from a place on and leaves every other byte as it
-// was.
+// The listing of a procedure, read from values node by node. `ws` is the table that was read from `file`, where the names stand, `ix` its
+// index and `tree` its records. Each `put_` function writes from a place on and leaves every other byte as it was.
 ghost use mathlib.Core.Path.{_≡_};
 ghost use mathlib.Core.List.{[], _∷_, _++_};
 ghost use Prim.Native.Nat.{_+_, _≤_, _<_};
 ghost use lib.ListN.{length, getD};
 ghost use Rattle.lists.specs.Written.{Wrote};
 ghost use Rattle.planning.specs.Text.{decimal};
-ghost use Rattle.table.specs.Layout.{namePartsFrom};
-ghost use Rattle.sheet.specs.Sheet.{tableIn};
+ghost use Rattle.table.specs.Layout.{namePartsIn};
+ghost use Rattle.table.specs.Layout.{tableIn};
 ghost use Rattle.places.specs.ClausePlace.{tasksN};
 ghost use Rattle.shape.specs.Shape.{node, InNode};
 ghost use Rattle.listing.specs.Listing.{shownNames, jobLine, stepLine};
 ghost use Rattle.listing.specs.Walk.{firstTrue, stepRows, jobRows, rowsAt, walked, valueOf, Listable, Ready, WroteRows};
-use table::Table;
 
 // How far the listing is: the place behind what is written, and how many steps are done.
 struct Reached {
@@ -93,7 +91,6 @@ fn task_at(ws: &[u64], ix: &[u64], n: usize, x: usize) -> usize
 
 // The row of step s at node n: none at an inner node, which hands the step down.
 fn put_step_row<'a, 'b, 'c>(
-    t: Table,
     file: &'a [u8],
     ws: &'c [u64],
     ix: &'c [u64],
@@ -102,15 +99,15 @@ fn put_step_row<'a, 'b, 'c>(
     s: usize,
     p: Reached,
 ) -> Reached
-    requires { ⌜ Ready t (now file) (tableIn (now ws)) (now ix) n (now out) (p .at) (p .steps) ⌝ }
-    ensures { λ r. ⌜ WroteRows (shownNames (now (file .entry)) (namePartsFrom t)) (now (out .entry)) (p .at) (p .steps)
+    requires { ⌜ Ready (now ws) (now file) (tableIn (now ws)) (now ix) n (now out) (p .at) (p .steps) ⌝ }
+    ensures { λ r. ⌜ WroteRows (shownNames (now (file .entry)) (namePartsIn (now (ws .entry)))) (now (out .entry)) (p .at) (p .steps)
         (stepRows ((node (tableIn (now (ws .entry))) n) .jobs) s) (now (out .exit)) (r .at) (r .steps) ⌝ }
 {
     if shape::jobs_of(ws, ix, n) > 0 {
         return p;
     }
     let place = p.steps + 1;
-    let at = put_step(out, p.at, place as u64, t.step_name(file, s));
+    let at = put_step(out, p.at, place as u64, table::step_name(file, ws, s));
     Reached {
         at: at,
         steps: place,
@@ -119,7 +116,6 @@ fn put_step_row<'a, 'b, 'c>(
 
 // The row of job j at node n, with the first method whose variable is true there; none where no method's is.
 fn put_job_row<'a, 'b, 'c, 'd, 'e>(
-    t: Table,
     file: &'a [u8],
     ws: &'c [u64],
     ix: &'c [u64],
@@ -130,9 +126,9 @@ fn put_job_row<'a, 'b, 'c, 'd, 'e>(
     j: usize,
     p: Reached,
 ) -> Reached
-    requires { ⌜ Listable t (now file) (tableIn (now ws)) (now ix) (now tree) (now values)
-        × Ready t (now file) (tableIn (now ws)) (now ix) n (now out) (p .at) (p .steps) × (0 < length ((node (tableIn (now ws)) n) .jobs)) ⌝ }
-    ensures { λ r. ⌜ WroteRows (shownNames (now (file .entry)) (namePartsFrom t)) (now (out .entry)) (p .at) (p .steps)
+    requires { ⌜ Listable (now ws) (now file) (tableIn (now ws)) (now ix) (now tree) (now values)
+        × Ready (now ws) (now file) (tableIn (now ws)) (now ix) n (now out) (p .at) (p .steps) × (0 < length ((node (tableIn (now ws)) n) .jobs)) ⌝ }
+    ensures { λ r. ⌜ WroteRows (shownNames (now (file .entry)) (namePartsIn (now (ws .entry)))) (now (out .entry)) (p .at) (p .steps)
         (jobRows (tableIn (now (ws .entry))) (valueOf (now (values .entry))) n j) (now (out .exit)) (r .at) (r .steps) ⌝ }
 {
     let k = shape::methods_of(ws, ix, n);
@@ -142,7 +138,13 @@ fn put_job_row<'a, 'b, 'c, 'd, 'e>(
         return p;
     }
     let m = shape::method(ws, ix, n, x);
-    let at = put_job(out, p.at, tree[5 * n], t.job_name(file, j), m as u64);
+    let at = put_job(
+        out,
+        p.at,
+        tree[5 * n],
+        table::job_name(file, ws, j),
+        m as u64,
+    );
     Reached {
         at: at,
         steps: p.steps,
@@ -151,7 +153,6 @@ fn put_job_row<'a, 'b, 'c, 'd, 'e>(
 
 // The row of node n.
 fn put_node<'a, 'b, 'c, 'd, 'e>(
-    t: Table,
     file: &'a [u8],
     ws: &'c [u64],
     ix: &'c [u64],
@@ -161,9 +162,9 @@ fn put_node<'a, 'b, 'c, 'd, 'e>(
     n: usize,
     p: Reached,
 ) -> Reached
-    requires { ⌜ Listable t (now file) (tableIn (now ws)) (now ix) (now tree) (now values)
-        × Ready t (now file) (tableIn (now ws)) (now ix) n (now out) (p .at) (p .steps) ⌝ }
-    ensures { λ r. ⌜ WroteRows (shownNames (now (file .entry)) (namePartsFrom t)) (now (out .entry)) (p .at) (p .steps)
+    requires { ⌜ Listable (now ws) (now file) (tableIn (now ws)) (now ix) (now tree) (now values)
+        × Ready (now ws) (now file) (tableIn (now ws)) (now ix) n (now out) (p .at) (p .steps) ⌝ }
+    ensures { λ r. ⌜ WroteRows (shownNames (now (file .entry)) (namePartsIn (now (ws .entry)))) (now (out .entry)) (p .at) (p .steps)
         (rowsAt (tableIn (now (ws .entry))) (valueOf (now (values .entry))) n) (now (out .exit)) (r .at) (r .steps) ⌝ }
 {
     let k = shape::tasks_of(ws, ix, n);
@@ -173,14 +174,13 @@ fn put_node<'a, 'b, 'c, 'd, 'e>(
     }
     let i = task_at(ws, ix, n, x);
     if x < shape::steps_of(ws, ix, n) {
-        return put_step_row(t, file, ws, ix, out, n, i, p);
+        return put_step_row(file, ws, ix, out, n, i, p);
     }
-    put_job_row(t, file, ws, ix, tree, values, out, n, i, p)
+    put_job_row(file, ws, ix, tree, values, out, n, i, p)
 }
 
 // Writes the listing's lines for these values, node by node; the end comes back.
 pub fn write<'a, 'b, 'c, 'd, 'e>(
-    t: Table,
     file: &'a [u8],
     ws: &'c [u64],
     ix: &'c [u64],
@@ -188,15 +188,15 @@ pub fn write<'a, 'b, 'c, 'd, 'e>(
     values: &'e [u8],
     out: &'b mut [u8],
 ) -> usize
-    requires { ⌜ Listable t (now file) (tableIn (now ws)) (now ix) (now tree) (now values) × (24576 ≤ length (now out)) ⌝ }
-    ensures { λ r. ⌜ Wrote (now (out .entry)) 0 (walked (tableIn (now (ws .entry))) (shownNames (now (file .entry)) (namePartsFrom t))
+    requires { ⌜ Listable (now ws) (now file) (tableIn (now ws)) (now ix) (now tree) (now values) × (24576 ≤ length (now out)) ⌝ }
+    ensures { λ r. ⌜ Wrote (now (out .entry)) 0 (walked (tableIn (now (ws .entry))) (shownNames (now (file .entry)) (namePartsIn (now (ws .entry))))
         (valueOf (now (values .entry)))) (now (out .exit)) r ⌝ }
 {
     let k = shape::nodes_in(ws, ix, 1);
     let mut p = Reached { at: 0, steps: 0 };
     let mut n: usize = 0;
     while n < k {
-        p = put_node(t, file, ws, ix, tree, values, out, n, p);
+        p = put_node(file, ws, ix, tree, values, out, n, p);
         n += 1;
     }
     p.at

@@ -35,6 +35,14 @@ map-from {A} {B} f g d k (suc n) (x ∷ xs) e h =
 pub map-upTo : {A B : Type 0} (f : ℕ → B) (g : A → B) (d : A) (n : ℕ) (xs : List A) → n ≡ length xs → ((i : ℕ) → i < length xs → f i ≡ g (getD xs i d)) → map f (upTo n) ≡ map g xs
 map-upTo f g d n xs e h = map-from f g d 0 n xs e (λ i l. let z : 0 + i ≡ i = omega arith in rw z (h i l))
 
+-- a list that has f i at each place i
+pub listed : {A : Type 0} (f : ℕ → A) (d : A) (n : ℕ) (xs : List A) → n ≡ length xs → ((i : ℕ) → i < n → f i ≡ getD xs i d) → map f (upTo n) ≡ xs
+listed {A} f d n xs e h = map-upTo f (λ (x : A). x) d n xs e (λ i l. h i (omega (arith, e))) ∙ same xs
+  where
+    same : (xs : List A) → map (λ (x : A). x) xs ≡ xs
+    same [] = refl
+    same (x ∷ xs) = ap (λ (l : List A). x ∷ l) (same xs)
+
 -- what stands at a place of a function of numbers
 pub getD-map-from : {B : Type 0} (f : ℕ → B) (k n i : ℕ) (d : B) → i < n → getD (map f (from k n)) i d ≡ f (k + i)
 getD-map-from f k zero i d h = absurd (omega arith)

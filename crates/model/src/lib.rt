@@ -1,4 +1,4 @@
-// Question 15: is every clause satisfied by these values? `ws` is the table's sheet and `ix` its index. Variable v's value stands at
+// Question 15: is every clause satisfied by these values? `ws` is the table and `ix` its index. Variable v's value stands at
 // place v - 1: 1 if it is true.
 mod row;
 
@@ -7,7 +7,7 @@ ghost use lib.ListN.{length};
 ghost use Rattle.planning.specs.Clause.{formula};
 ghost use Rattle.planning.specs.Model.{value, litTrue, clauseTrue, satisfies, truthsIn};
 ghost use Rattle.writer.specs.Literal.{litIn, clauseIn};
-ghost use Rattle.sheet.specs.Sheet.{tableIn};
+ghost use Rattle.table.specs.Layout.{tableIn};
 ghost use Rattle.shape.specs.Shape.{Indexed};
 ghost use Rattle.cursor.specs.Cursor.{Holds};
 ghost use Rattle.model.specs.Clauses.{clauseAt};

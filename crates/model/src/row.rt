@@ -1,5 +1,5 @@
 // Is a row of clauses satisfied? A row holds up to 128 clauses, and most rows are satisfied whole by one literal: a few variables tell. `ws` is the
-// table's sheet and `ix` its index.
+// table and `ix` its index.
 ghost use mathlib.Core.Path.{_≡_};
 ghost use mathlib.Core.Bool.{true};
 ghost use Prim.Native.Nat.{_+_, _<_};
@@ -7,7 +7,7 @@ ghost use lib.ListN.{length};
 ghost use Rattle.lists.specs.List.{any, from};
 ghost use Rattle.planning.specs.Model.{value, satisfies, truthsIn};
 ghost use Rattle.places.specs.ClausePlace.{tasksN};
-ghost use Rattle.sheet.specs.Sheet.{tableIn};
+ghost use Rattle.table.specs.Layout.{tableIn};
 ghost use Rattle.shape.specs.Shape.{node, Indexed, InNode};
 ghost use Rattle.cursor.specs.Cursor.{Stands, Holds};
 ghost use Rattle.model.specs.Clauses.{rowClauses, RowTrue};

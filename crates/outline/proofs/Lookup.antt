@@ -16,6 +16,7 @@ use Rattle.outline.specs.Outlined.{kindOf}
 use Rattle.outline.specs.declared.Kind.{Kind}
 use Rattle.outline.specs.declared.Kind.the-variants.{Fact, Step, Job, Task}
 use Rattle.outline.proofs.Questions.{declared-few, names-facts, names-steps, names-jobs, names-tasks}
+use Rattle.outline.specs.Questions.{mostNames}
 
 pub held-fewer : {s : List ℕ} {ls : List Piece} {starts sizes : List ℕ} {i n : ℕ} → i ≤ n → Held s ls starts sizes n → Held s ls starts sizes i
 held-fewer h u = record { at = λ k l. u .at k (omega arith) }
@@ -23,7 +24,7 @@ held-fewer h u = record { at = λ k l. u .at k (omega arith) }
 -- what `find` asks of the lines from lo up to hi and of the part from a up to b
 module _ {s : List ℕ} {f st j : ℕ} {starts sizes : List ℕ} (u : Indexed s f st j starts sizes) where
   pub room : {lo hi a b : ℕ} → lo ≤ hi → hi ≤ f + st + j → a ≤ b → b ≤ length s
-      → (lo ≤ hi) × (hi ≤ 192) × (hi ≤ length (linesFrom s 0)) × (a ≤ b) × (b ≤ length s) × Held s (linesFrom s 0) starts sizes hi
+      → (lo ≤ hi) × (hi ≤ mostNames) × (hi ≤ length (linesFrom s 0)) × (a ≤ b) × (b ≤ length s) × Held s (linesFrom s 0) starts sizes hi
   room o h p q =
       let few = declared-few s (u .facts) (u .steps) (u .jobs) in
       (o, omega (arith, u .few), omega (arith, few), p, q, held-fewer h (u .held))

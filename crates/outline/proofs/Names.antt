@@ -22,6 +22,7 @@ use Rattle.lists.proofs.Order.{le-or-lt, ne-lt}
 use Rattle.outline.specs.Index.{Entry, Held}
 use Rattle.outline.specs.Names.{allNew, among, namesOf, numberOf}
 use Rattle.outline.specs.Part.{partOf}
+use Rattle.outline.specs.Questions.{mostNames}
 
 module _ {s : List ℕ} {a b e : ℕ} (k : Cut tab s a b e) (h : b < length s) where
   letter-only : e ≡ b → length (field (slice a b s) 0) ≡ b - a
@@ -80,11 +81,11 @@ held-more {s} {ls} {starts} {sizes} {k} {p} {z} u g h e = record { at = λ i l. 
 pub record Filled (s starts sizes : List ℕ) (i a : ℕ) : Type 0 where
   pub high : a ≤ length s
   pub rest : linesFrom s a ≡ drop i (linesFrom s 0)
-  pub wide : length starts ≡ 192
-  pub wide-too : length sizes ≡ 192
+  pub wide : length starts ≡ mostNames
+  pub wide-too : length sizes ≡ mostNames
   pub held : Held s (linesFrom s 0) starts sizes i
 
-pub filled-first : {s starts sizes : List ℕ} → length starts ≡ 192 → length sizes ≡ 192 → Filled s starts sizes 0 0
+pub filled-first : {s starts sizes : List ℕ} → length starts ≡ mostNames → length sizes ≡ mostNames → Filled s starts sizes 0 0
 filled-first p q = record { high = omega arith; rest = refl; wide = p; wide-too = q; held = held-none }
 
 module _ {s starts sizes : List ℕ} {i a b : ℕ} (u : Filled s starts sizes i a) (k : Cut LF s a (length s) b) (l : i < length (linesFrom s 0)) where
@@ -97,7 +98,7 @@ module _ {s starts sizes : List ℕ} {i a b : ℕ} (u : Filled s starts sizes i 
       (λ m. m)
       (le-or-lt (length s) b)
 
-  pub filled-more : {p z : ℕ} → i < 192 → Entry s (lineAt s a b) p z → Filled s (set starts i p) (set sizes i z) (i + 1) (b + 1)
+  pub filled-more : {p z : ℕ} → i < mostNames → Entry s (lineAt s a b) p z → Filled s (set starts i p) (set sizes i z) (i + 1) (b + 1)
   filled-more {p} {z} w e =
       let ls = linesFrom s 0 in
       let h : b < length s = filled-line in

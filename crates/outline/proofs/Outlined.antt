@@ -17,7 +17,7 @@ use Rattle.lines.specs.Cut.{linesFrom}
 use Rattle.grammar.specs.File.{met2, met3}
 use Rattle.outline.specs.Sections.{sections}
 use Rattle.outline.specs.Names.{namesOf, allNew}
-use Rattle.outline.specs.Questions.{withinCounts, short, met4, met5, met6}
+use Rattle.outline.specs.Questions.{mostNames, withinCounts, short, met4, met5, met6}
 use Rattle.outline.specs.Index.{Shaped, Held}
 use Rattle.outline.specs.Outlined.{questions2to5, questions2to6, noOutline, Outlined}
 use Rattle.outline.specs.declared.Outline.{Outline}
@@ -105,7 +105,7 @@ module _ (s : List ℕ) (h : Shape) (u : ShapedAs s h) where
     small = counts-small (h .facts) (h .steps) (h .jobs) (h .methods)
         (and-l (withinCounts (h .facts) (h .steps) (h .jobs) (h .methods)) (all short (slice 0 (h .methods) (linesFrom s (h .«methods_at»)))) (sym (fifth u) ∙ met .fifth))
 
-    pub few : count h ≤ 192
+    pub few : count h ≤ mostNames
     few = omega (arith, small .0, small .1, small .2)
 
     pub enough : count h ≤ length (linesFrom s 0)

@@ -10,6 +10,7 @@ use Rattle.lines.specs.Cut.{linesFrom}
 use Rattle.grammar.specs.Line.{F, S, T, byteOf, nameIn}
 use Rattle.outline.specs.Sections.{leading, past, sections}
 use Rattle.outline.specs.Part.{partOf}
+use Rattle.outline.specs.Questions.{mostNames}
 
 -- n lines from the place a on begin with the byte c, and the others begin at e. Left free: e, where there are no others and no LF ends the last
 pub record Runs (c : ℕ) (s : List ℕ) (a n e : ℕ) : Type 0 where
@@ -50,5 +51,5 @@ pub record Indexed (s : List ℕ) (f st j : ℕ) (starts sizes : List ℕ) : Typ
   pub facts : f ≡ length ((sections (linesOf s)) .facts)
   pub steps : st ≡ length ((sections (linesOf s)) .steps)
   pub jobs : j ≡ length ((sections (linesOf s)) .jobs)
-  pub few : f + st + j ≤ 192
+  pub few : f + st + j ≤ mostNames
   pub held : Held s (linesFrom s 0) starts sizes (f + st + j)

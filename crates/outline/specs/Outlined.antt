@@ -10,7 +10,7 @@ use Rattle.lines.specs.Parts.{linesOf}
 use Rattle.outline.specs.Sections.{sections}
 use Rattle.outline.specs.Names.{Kind, fact, step, job, task}
 use Rattle.grammar.specs.File.{met2, met3}
-use Rattle.outline.specs.Questions.{met4, met5, met6}
+use Rattle.outline.specs.Questions.{mostNames, met4, met5, met6}
 use Rattle.outline.specs.Index.{Shaped, Indexed}
 use Rattle.outline.specs.declared.Kind.{Kind as KindWanted}
 use Rattle.outline.specs.declared.Kind.the-variants.{Fact, Step, Job, Task}
@@ -37,7 +37,7 @@ abbrev pub noOutline : ℕ → Outline
 noOutline q = record {
   question = q;
   shape = record { facts = 0; steps = 0; jobs = 0; methods = 0; «steps_at» = 0; «jobs_at» = 0; «methods_at» = 0; «ends_at» = 0 };
-  names = record { start = replicate 192 0; size = replicate 192 0 };
+  names = record { start = replicate mostNames 0; size = replicate mostNames 0 };
 }
 
 -- Left free: the places past the last name

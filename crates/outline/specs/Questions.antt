@@ -1,7 +1,7 @@
 -- Questions 4, 5 and 6, put to a whole file.
 -- Assumes nothing.
 use mathlib.Core.Bool.{Bool, _&&_}
-use Prim.Native.Nat.{ℕ}
+use Prim.Native.Nat.{ℕ, _+_}
 use lib.Dec.{leb}
 use lib.ListN.{length}
 use Rattle.lists.specs.List.{all}
@@ -10,6 +10,10 @@ use Rattle.lines.specs.Parts.{Piece}
 use Rattle.grammar.specs.Line.{bodyIn}
 use Rattle.outline.specs.Sections.{Sections, isEnd}
 use Rattle.outline.specs.Names.{allNew, allDeclared}
+
+-- facts, steps and jobs have names
+abbrev pub mostNames : ℕ
+mostNames = mostFacts + mostSteps + mostJobs
 
 -- "4. Is the line order kept?" The F, S, T and M lines are taken off the front in that order, so what is left must be the I and the R line.
 unfoldable pub met4 : Sections → Bool

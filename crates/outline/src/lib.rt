@@ -12,7 +12,7 @@ ghost use Rattle.lines.specs.Cut.{linesFrom, lineAt};
 ghost use Rattle.outline.specs.Sections.{sections, isEnd};
 ghost use Rattle.outline.specs.Names.{namesOf, numberOf, allNew, declared};
 ghost use Rattle.grammar.specs.File.{met2};
-ghost use Rattle.outline.specs.Questions.{withinCounts, short};
+ghost use Rattle.outline.specs.Questions.{mostNames, withinCounts, short};
 ghost use Rattle.outline.specs.Index.{Runs, Shaped, Entry, Held, Indexed};
 ghost use Rattle.outline.specs.Outlined.{kindOf, questions2to5, noOutline, Outlined};
 use grammar::are_lines;
@@ -22,6 +22,20 @@ use grammar::fits_and_ends;
 use grammar::line_begins;
 use lines::cut;
 use lines::is_same;
+
+// "At most 64 facts, 64 steps, 64 jobs, 128 methods, 8 names in a body."
+pub const MOST_FACTS: usize = 64;
+
+pub const MOST_STEPS: usize = 64;
+
+pub const MOST_JOBS: usize = 64;
+
+pub const MOST_METHODS: usize = 128;
+
+pub const MOST_IN_BODY: usize = 8;
+
+// Facts, steps and jobs have names.
+pub const MOST_NAMES: usize = MOST_FACTS + MOST_STEPS + MOST_JOBS;
 
 // How many lines, and the place of the line after them.
 struct Run {
@@ -111,19 +125,19 @@ fn ends_in_order(s: &[u8], a: usize) -> bool
 fn counts_fit(facts: usize, steps: usize, jobs: usize, methods: usize) -> bool
     ensures { λ r. ⌜ r ≡ withinCounts facts steps jobs methods ⌝ }
 {
-    if facts > 64 {
+    if facts > MOST_FACTS {
         return false;
     }
-    if steps > 64 {
+    if steps > MOST_STEPS {
         return false;
     }
-    if jobs > 64 {
+    if jobs > MOST_JOBS {
         return false;
     }
-    methods <= 128
+    methods <= MOST_METHODS
 }
 
-// Question 5, of bodies: has each of the n M lines from the place at on at most 8 names in its body?
+// Question 5, of bodies: has each of the n M lines from the place at on at most so many names in its body?
 fn bodies_fit(s: &[u8], at: usize, n: usize) -> bool
     requires { ⌜ (at ≤ length (now s)) × (n ≤ length (linesFrom (now s) at)) ⌝ }
     ensures { λ r. ⌜ r ≡ all short (slice 0 n (linesFrom (now (s .entry)) at)) ⌝ }
@@ -133,7 +147,7 @@ fn bodies_fit(s: &[u8], at: usize, n: usize) -> bool
     while i < n {
         let b = cut(s, a, s.len(), b'\n');
         let f = field_at(s, a, b, 2);
-        if count_names(s, f.from, f.to) > 8 {
+        if count_names(s, f.from, f.to) > MOST_IN_BODY {
             return false;
         }
         i += 1;
@@ -189,8 +203,8 @@ fn name_of(s: &[u8], a: usize, b: usize) -> Span
     }
 }
 
-// A number for each name that a file may declare: 64 facts, 64 steps and 64 jobs.
-pub type Places = [usize; 192];
+// A number for each name that a file may declare.
+pub type Places = [usize; MOST_NAMES];
 
 // Where the names of the first lines stand: those of F lines, then of S lines, then of T lines.
 pub struct Spans {
@@ -200,11 +214,11 @@ pub struct Spans {
 
 // The names that the first n lines declare.
 fn declare(s: &[u8], n: usize) -> Spans
-    requires { ⌜ (n ≤ 192) × (n ≤ length (linesFrom (now s) 0)) ⌝ }
+    requires { ⌜ (n ≤ mostNames) × (n ≤ length (linesFrom (now s) 0)) ⌝ }
     ensures { λ r. ⌜ Held (now (s .entry)) (linesFrom (now (s .entry)) 0) (r .start) (r .size) n ⌝ }
 {
-    let mut start = [0; 192];
-    let mut size = [0; 192];
+    let mut start = [0; MOST_NAMES];
+    let mut size = [0; MOST_NAMES];
     let mut i = 0;
     let mut a = 0;
     while i < n {
@@ -231,7 +245,7 @@ fn find<'a>(
     a: usize,
     b: usize,
 ) -> usize
-    requires { ⌜ (lo ≤ hi) × (hi ≤ 192) × (hi ≤ length (linesFrom (now s) 0)) × (a ≤ b) × (b ≤ length (now s))
+    requires { ⌜ (lo ≤ hi) × (hi ≤ mostNames) × (hi ≤ length (linesFrom (now s) 0)) × (a ≤ b) × (b ≤ length (now s))
         × Held (now s) (linesFrom (now s) 0) (now start) (now size) hi ⌝ }
     ensures { λ r. ⌜ r ≡ numberOf (namesOf (slice lo hi (linesFrom (now (s .entry)) 0))) (slice a b (now (s .entry))) ⌝ }
 {
@@ -249,7 +263,7 @@ fn find<'a>(
 
 // Question 6, of the names that lines lo up to hi declare.
 fn are_new<'a>(s: &[u8], start: &'a Places, size: &'a Places, lo: usize, hi: usize) -> bool
-    requires { ⌜ (lo ≤ hi) × (hi ≤ 192) × (hi ≤ length (linesFrom (now s) 0)) × Held (now s) (linesFrom (now s) 0) (now start) (now size) hi ⌝ }
+    requires { ⌜ (lo ≤ hi) × (hi ≤ mostNames) × (hi ≤ length (linesFrom (now s) 0)) × Held (now s) (linesFrom (now s) 0) (now start) (now size) hi ⌝ }
     ensures { λ r. ⌜ r ≡ allNew (namesOf (slice lo hi (linesFrom (now (s .entry)) 0))) ⌝ }
 {
     let mut i = lo;
@@ -319,8 +333,8 @@ fn refused(question: usize) -> Outline
             ends_at: 0,
         },
         names: Spans {
-            start: [0; 192],
-            size: [0; 192],
+            start: [0; MOST_NAMES],
+            size: [0; MOST_NAMES],
         },
     }
 }

@@ -9,11 +9,12 @@ use native.Mathlib.Omega.{arith}
 use lib.ListN.{length}
 use Rattle.lists.specs.Question.{firstUnmet}
 use Rattle.lists.proofs.Bool.{leb-sound, leb-in, leb-no}
-use Rattle.planning.specs.Table.{Table, Sound, Limits}
+use Rattle.planning.specs.Table.{Table, Limits}
 use Rattle.planning.specs.Place.{rootPlace, nodes}
 use Rattle.planning.specs.Variable.{variables, slots}
 use Rattle.planning.specs.Accepted.{Accepted}
-use Rattle.table.specs.Layout.{tableFrom, Reads}
+use Rattle.table.specs.Layout.{tableIn, Reads}
+use Rattle.table.specs.Reading.{reading}
 use Rattle.table.specs.declared.Outcome.{Outcome}
 use Rattle.table.proofs.Promised.{promises}
 use Rattle.tree.specs.Visit.{Known, Counted}
@@ -68,48 +69,48 @@ by-number zero T u = absurd (u refl)
 by-number (suc n) T u = refl
 
 module _ (file : List ℕ) {o : Outcome} (reads : Reads file o) where
-  pub not-read : (o .question ≡ 0 → ⊥) → (T : Table) {r : Prepared} → r .question ≡ o .question → IsPrepared file T r
-  not-read u T {r} e = record {
-    verdict = rw e (by-number (o .question) T u ∙ sym (ap afterReading (promises .turned-down file o reads u)));
-    accepted = λ z. absurd (u (sym e ∙ z));
+  pub not-read : (o .question ≡ 0 → ⊥) → {r : Prepared} → r .question ≡ o .question → IsPrepared file r
+  not-read u {r} e = record {
+    verdict = rw e (by-number (o .question) (tableIn (r .table)) u ∙ sym (ap afterReading (promises .turned-down file o reads u)));
+    met = λ z. absurd (u (sym e ∙ z));
     nodes = λ z. absurd (u (sym e ∙ z));
     variables = λ z. absurd (u (sym e ∙ z));
-    table = λ z. absurd (u (sym e ∙ z));
-    names = λ z. absurd (u (sym e ∙ z));
   }
 
   module _ (met : o .question ≡ 0) where
-    pub sound : Sound (tableFrom (o .table))
-    sound = (promises .read file o reads met) .sound
+    abbrev T : Table
+    T = tableIn (o .table)
 
-    pub limits : Limits (tableFrom (o .table))
-    limits = (promises .read file o reads met) .limits
+    pub known : Known (tableIn (o .table))
+    known = let u = promises .read file o reads met in record { sound = u .sound; limits = u .limits }
 
-    pub known : Known (tableFrom (o .table))
-    known = record { sound = sound; limits = limits }
-
-    pub is-prepared : {T : Table} → T ≡ tableFrom (o .table) → {m : Measure} → Measured T m
-        → IsPrepared file T (record { question = m .question; nodes = m .nodes; variables = m .variables; table = o .table })
-    is-prepared {T} e {m} h = record {
-      verdict = ap (λ (n : ℕ). ifMet n T) (h .question) ∙ rw e (sym (ap afterReading (promises .read-as file o reads met)));
-      accepted = λ z. few-enough z;
+    pub is-prepared : {m : Measure} → Measured (tableIn (o .table)) m
+        → IsPrepared file (record { question = m .question; nodes = m .nodes; variables = m .variables; table = o .table })
+    is-prepared {m} h = record {
+      verdict = verdict;
+      met = λ z. record {
+        verdict = sym verdict ∙ ap (λ (n : ℕ). ifMet n T) z;
+        table = few-enough z;
+        names = sym (ap namesAfter (promises .read-as file o reads met));
+      };
       nodes = h .nodes;
       variables = h .variables;
-      table = λ z. e;
-      names = λ z. sym (ap namesAfter (promises .read-as file o reads met));
     }
       where
+        verdict : ifMet (m .question) (tableIn (o .table)) ≡ afterReading (reading file)
+        verdict = ap (λ (n : ℕ). ifMet n T) (h .question) ∙ sym (ap afterReading (promises .read-as file o reads met))
+
         both : (a b : Bool) → 0 ≡ firstUnmet ((8, a) ∷ (9, b) ∷ []) → (a ≡ true) × (b ≡ true)
         both true true q = (refl, refl)
         both true false q = absurd (omega arith)
         both false b q = absurd (omega arith)
 
-        few-enough : m .question ≡ 0 → Accepted T
+        few-enough : m .question ≡ 0 → Accepted (tableIn (o .table))
         few-enough z =
             let k = both (met8 T) (met9 T) (sym z ∙ h .question) in
             record {
-              sound = rw e sound;
-              limits = rw e limits;
+              sound = known .sound;
+              limits = known .limits;
               few-nodes = leb-sound (nodes (rootPlace T)) 1024 (k .0);
               few-variables = leb-sound (variables T) 8191 (k .1);
             }

@@ -10,11 +10,11 @@ use Rattle.planning.specs.Table.{Table}
 use Rattle.planning.specs.Place.{rootPlace, nodes}
 use Rattle.planning.specs.Variable.{variables}
 use Rattle.planning.specs.Accepted.{Accepted}
-use Rattle.table.specs.Layout.{tableFrom, namePartsFrom}
+use Rattle.table.specs.Layout.{tableIn, namePartsIn}
 use Rattle.nodes.specs.Tree.{met10}
 use Rattle.nodes.specs.declared.Node.{Node}
 use Rattle.shape.specs.Shape.{Indexed}
-use Rattle.questions.specs.Questions.{met8, met9, ifMet, accepting, namesOf}
+use Rattle.questions.specs.Questions.{met8, met9, accepted, ifMet, accepting, namesOf}
 use Rattle.questions.specs.declared.Measure.{Measure}
 use Rattle.questions.specs.declared.Prepared.{Prepared}
 
@@ -24,15 +24,18 @@ pub record Measured (T : Table) (r : Measure) : Type 0 where
   pub nodes : r .question ≡ 0 → r .nodes ≡ nodes (rootPlace T)
   pub variables : r .question ≡ 0 → r .variables ≡ variables T
 
--- questions 2 to 9 were put; where all are met, T is the table. Left free: where one is not met, the counts, the table beside the number and
--- the sheet
-pub record IsPrepared (file : List ℕ) (T : Table) (r : Prepared) : Type 0 where
-  pub verdict : ifMet (r .question) T ≡ accepting file
-  pub accepted : r .question ≡ 0 → Accepted T
-  pub nodes : r .question ≡ 0 → r .nodes ≡ nodes (rootPlace T)
-  pub variables : r .question ≡ 0 → r .variables ≡ variables T
-  pub table : r .question ≡ 0 → T ≡ tableFrom (r .table)
-  pub names : r .question ≡ 0 → namePartsFrom (r .table) ≡ namesOf file
+-- the file is accepted, as the table in the words ws
+pub record AcceptedAs (file ws : List ℕ) : Type 0 where
+  pub verdict : accepting file ≡ accepted (tableIn ws)
+  pub table : Accepted (tableIn ws)
+  pub names : namePartsIn ws ≡ namesOf file
+
+-- questions 2 to 9 were put. Left free: where one is not met, the counts and the table beside the number
+pub record IsPrepared (file : List ℕ) (r : Prepared) : Type 0 where
+  pub verdict : ifMet (r .question) (tableIn (r .table)) ≡ accepting file
+  pub met : r .question ≡ 0 → AcceptedAs file (r .table)
+  pub nodes : r .question ≡ 0 → r .nodes ≡ nodes (rootPlace (tableIn (r .table)))
+  pub variables : r .question ≡ 0 → r .variables ≡ variables (tableIn (r .table))
 
 -- question 10 was put; where it is met, the first r words of ix are the table's index. Left free: the other words of ix, and all of them where
 -- the question is not met

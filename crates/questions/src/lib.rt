@@ -1,14 +1,13 @@
-// The questions that several calls above put: 2 to 9 to a table file, and 10 to a lent tree. Each is asked here alone. `ws` is the table's
-// sheet.
+// The questions that several calls above put: 2 to 9 to a table file, and 10 to a lent tree. Each is asked here alone. `ws` is the table.
 ghost use mathlib.Core.Path.{_≡_};
 ghost use Prim.Native.Nat.{_+_, _≤_, _<_};
 ghost use lib.ListN.{length};
 ghost use Rattle.planning.specs.Accepted.{Accepted as AcceptedTable};
-ghost use Rattle.sheet.specs.Sheet.{sheetSize, tableIn};
+ghost use Rattle.table.specs.Layout.{tableIn};
 ghost use Rattle.nodes.specs.Nodes.{recordsIn};
 ghost use Rattle.tree.specs.Visit.{Known};
 ghost use Rattle.questions.specs.Parts.{Measured, IsPrepared, Placed};
-use table::Table;
+use table::Words;
 
 // Questions 8 and 9: the number of the first that is not met, or 0, and how many nodes and variables there are.
 pub struct Measure {
@@ -22,7 +21,7 @@ pub struct Prepared {
     pub question: usize,
     pub nodes: usize,
     pub variables: usize,
-    pub table: Table,
+    pub table: Words,
 }
 
 // Left free: both counts.
@@ -44,7 +43,7 @@ fn measure_of(ws: &[u64]) -> Measure
     if c.nodes > 1024 {
         return unmet(8);
     }
-    let v = c.variables + (c.slots + 1) * sheet::facts(ws);
+    let v = c.variables + (c.slots + 1) * table::facts(ws);
     if v > 8191 {
         return unmet(9);
     }
@@ -55,10 +54,9 @@ fn measure_of(ws: &[u64]) -> Measure
     }
 }
 
-// Questions 2 to 9. The table's sheet is left in ws; on a refusal what ws holds, the counts and the table are left free.
-pub fn prepare(file: &[u8], ws: &mut [u64]) -> Prepared
-    requires { ⌜ sheetSize ≤ length (now ws) ⌝ }
-    ensures { λ r. ⌜ IsPrepared (now (file .entry)) (tableIn (now (ws .exit))) r ⌝ }
+// Questions 2 to 9. On a refusal the counts and the table are left free.
+pub fn prepare(file: &[u8]) -> Prepared
+    ensures { λ r. ⌜ IsPrepared (now (file .entry)) r ⌝ }
 {
     let read = table::read(file);
     let t = read.table;
@@ -70,8 +68,7 @@ pub fn prepare(file: &[u8], ws: &mut [u64]) -> Prepared
             table: t,
         };
     }
-    sheet::fill(t, ws);
-    let m = measure_of(ws);
+    let m = measure_of(&t);
     Prepared {
         question: m.question,
         nodes: m.nodes,

@@ -16,7 +16,8 @@ use Rattle.lines.proofs.Cutting.{cut-first, cut-last, cut-more}
 use Rattle.grammar.specs.Byte.{comma}
 use Rattle.grammar.specs.Name.{Name, isHyphen, namesIn}
 use Rattle.outline.specs.Names.{among, numberOf}
-use Rattle.rows.specs.Answers.{stored, BodyMeans}
+use Rattle.rows.specs.Words.{stored}
+use Rattle.rows.specs.Answers.{BodyPut}
 
 -- n tasks of `every` are stored from the place k on; ms are left
 pub record Placing (tasks every ms : List Name) (k : ℕ) (o₀ o : List ℕ) (ok : Bool) (n : ℕ) : Type 0 where
@@ -41,7 +42,7 @@ placing-more {tasks} {every} {ms} {m} {k} {o₀} {o} {ok} {n} u =
       same = length-set o (k + n) (numberOf tasks m) ∙ u .same;
     }
 
-pub placing-done : {tasks every : List Name} {k : ℕ} {o₀ o : List ℕ} {ok : Bool} {n : ℕ} → Placing tasks every [] k o₀ o ok n → BodyMeans tasks every k o₀ o ok n
+pub placing-done : {tasks every : List Name} {k : ℕ} {o₀ o : List ℕ} {ok : Bool} {n : ℕ} → Placing tasks every [] k o₀ o ok n → BodyPut tasks every k o₀ o ok n
 placing-done {tasks} {every} {k} {o₀} {o} {ok} {n} u = record { told = sym (and-on ok) ∙ u .told; size = omega (arith, u .size); contents = u .text }
 
 -- The scan of the body from a up to b: i is where the names left begin --------------------------------------------------------
@@ -61,7 +62,7 @@ module _ {tasks : List Name} {s : List ℕ} {a b k : ℕ} {o₀ o : List ℕ} {o
       omega (arith, u .placing .size, z)
 
   module _ {j : ℕ} (t r : Bool) (q : j ≡ numberOf tasks (slice i e s)) (y : t ≡ among tasks (slice i e s)) (z : r ≡ (ok && t)) where
-    pub bodying-last : e ≡ b → BodyMeans tasks (split comma (slice a b s)) k o₀ (set o (k + n) j) r (n + 1)
+    pub bodying-last : e ≡ b → BodyPut tasks (split comma (slice a b s)) k o₀ (set o (k + n) j) r (n + 1)
     bodying-last d =
         let v : Placing tasks (split comma (slice a b s)) (slice i e s ∷ []) k o₀ o ok n = rw (d, ← cut-last c h d) (u .placing) in
         rw (z, y, q) (placing-done (placing-more v))
@@ -71,12 +72,12 @@ module _ {tasks : List Name} {s : List ℕ} {a b k : ℕ} {o₀ o : List ℕ} {o
         let g : e < b = ne-lt (c .high) d in
         record { low = omega (arith, u .low, c .low); high = omega arith; placing = rw (z, y, q) (placing-more (rw (cut-more c h g) at (u .placing))) }
 
-pub body-hyphen : (tasks : List Name) (f : List ℕ) (k : ℕ) (o : List ℕ) (r : Bool) → r ≡ isHyphen f → r ≡ true → BodyMeans tasks (namesIn f) k o o true 0
+pub body-hyphen : (tasks : List Name) (f : List ℕ) (k : ℕ) (o : List ℕ) (r : Bool) → r ≡ isHyphen f → r ≡ true → BodyPut tasks (namesIn f) k o o true 0
 unfolding namesIn
 body-hyphen tasks f k o r e y = rw (← e, y) (record { told = refl; size = refl; contents = refl })
 
 pub body-parts : {tasks : List Name} {k : ℕ} {o o′ : List ℕ} {ok : Bool} {n : ℕ} (f : List ℕ) (r : Bool) → r ≡ isHyphen f → r ≡ false
-    → BodyMeans tasks (split comma f) k o o′ ok n → BodyMeans tasks (namesIn f) k o o′ ok n
+    → BodyPut tasks (split comma f) k o o′ ok n → BodyPut tasks (namesIn f) k o o′ ok n
 unfolding namesIn
 body-parts f r e n u = rw (← e, n) u
 

@@ -76,11 +76,3 @@ le-count e h = omega arith
 
 pub lt-count : {n c k : ℕ} → n ≡ c → k < c → k < n
 lt-count e h = omega arith
-
--- a task's number fits a byte
-pub task-small : {s : List ℕ} {h : Shape} {starts sizes : List ℕ} (n : Name) {k : ℕ} → Ready s h starts sizes → k ≡ numberOf (declared (sections (linesOf s)) task) n → k < 256
-task-small {s} {h} {starts} {sizes} n u q = omega (arith, number-le (declared (sections (linesOf s)) task) n, count-tasks u, u .steps, u .jobs)
-
--- a job's number fits a byte
-pub job-small : {s : List ℕ} {h : Shape} {starts sizes : List ℕ} (n : Name) {k : ℕ} → Ready s h starts sizes → k ≡ numberOf (declared (sections (linesOf s)) job) n → k < 256
-job-small {s} {h} {starts} {sizes} n u q = omega (arith, number-le (declared (sections (linesOf s)) job) n, count-jobs u, u .jobs)

@@ -21,7 +21,8 @@ use Rattle.outline.specs.Sections.{Sections, sections, isEnd, startLine, rootLi
 use Rattle.outline.specs.Names.{among, numberOf, fact, job, declared}
 use Rattle.outline.specs.Questions.{met4}
 use Rattle.outline.specs.declared.Shape.{Shape}
-use Rattle.rows.specs.Answers.{Ready, factWords, FactsMean, EndsMean}
+use Rattle.rows.specs.Words.{factWords}
+use Rattle.rows.specs.Answers.{Ready, FactsMean, EndsMean}
 
 two : (ls : List Piece) → isEnd ls ≡ true → length ls ≡ 2
 unfolding isEnd
@@ -70,6 +71,7 @@ ends-means p l m e d o t r ws i k f g y z q =
     record {
       told = q ∙ ap₂ _&&_ (f₁ .told) (y ∙ ap (λ (n : List ℕ). among (declared p job) (field n 1)) d);
       set = f₁ .set;
+      wide = f₁ .wide;
       root = g ∙ ap (λ (n : List ℕ). numberOf (declared p job) (field n 1)) d;
       depth = z ∙ ap (λ (n : List ℕ). getD (field n 2) 0 0 - 48) d;
     }

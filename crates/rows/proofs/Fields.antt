@@ -14,7 +14,7 @@ use Rattle.grammar.specs.Field.{At}
 use Rattle.outline.specs.Names.{among, numberOf}
 use Rattle.rows.specs.Uses.{areFacts, usesFacts, usesTasks}
 use Rattle.rows.specs.Row.{readStep}
-use Rattle.rows.specs.Answers.{FactsMean, StepMeans, BodyMeans, MethodMeans}
+use Rattle.rows.specs.Answers.{FactsMean, StepMeans, BodyPut}
 
 -- field k of the line from a up to b, as a list of facts
 pub field-facts : {n : ℕ} {s : List ℕ} {a b k x y : ℕ} {fs : List Name} {ok : Bool} {ws : List ℕ} → At s a b k x y → FactsMean n fs (namesIn (slice x y s)) ok ws
@@ -42,8 +42,8 @@ step-means fs l o₁ o₂ o₃ q r x y z f g h e d =
 pub field-name : {s : List ℕ} {a b k x y : ℕ} {j : ℕ} (ns : List Name) → At s a b k x y → j ≡ numberOf ns (slice x y s) → j ≡ numberOf ns (field (slice a b s) k)
 field-name ns u e = e ∙ ap (numberOf ns) (u .bytes)
 
-pub field-body : {s : List ℕ} {a b x y k n : ℕ} {tasks : List Name} {o o′ : List ℕ} {ok : Bool} → At s a b 2 x y → BodyMeans tasks (namesIn (slice x y s)) k o o′ ok n
-    → BodyMeans tasks (bodyIn (slice a b s)) k o o′ ok n
+pub field-body : {s : List ℕ} {a b x y k n : ℕ} {tasks : List Name} {o o′ : List ℕ} {ok : Bool} → At s a b 2 x y → BodyPut tasks (namesIn (slice x y s)) k o o′ ok n
+    → BodyPut tasks (bodyIn (slice a b s)) k o o′ ok n
 unfolding bodyIn
 field-body u f = rw (← u .bytes) f
 
@@ -51,15 +51,15 @@ pub field-length : {s : List ℕ} {a b x y : ℕ} → At s a b 2 x y → length 
 unfolding bodyIn
 field-length u = ap (λ (f : List ℕ). length (namesIn f)) (u .bytes)
 
-pub method-means : (jobs tasks : List Name) (l : List ℕ) (k : ℕ) (o o′ : List ℕ) (t ok r : Bool) (j n : ℕ) → j ≡ numberOf jobs (field l 1) → t ≡ among jobs (field l 1)
-    → BodyMeans tasks (bodyIn l) k o o′ ok n → r ≡ (t && ok) → MethodMeans jobs tasks l k o o′ r j n
+-- is question 7 met by an M line
+pub method-told : (jobs tasks : List Name) (l : List ℕ) {k : ℕ} {o o′ : List ℕ} {ok : Bool} {n : ℕ} (t r : Bool) → t ≡ among jobs (field l 1)
+    → BodyPut tasks (bodyIn l) k o o′ ok n → r ≡ (t && ok) → r ≡ usesTasks jobs tasks l
 unfolding usesTasks nameIn
-method-means jobs tasks l k o o′ t ok r j n e y f d = record {
-  told = d ∙ ap₂ _&&_ y (f .told);
-  owner = e;
-  size = f .size;
-  contents = f .contents;
-}
+method-told jobs tasks l t r y f d = d ∙ ap₂ _&&_ y (f .told)
+
+pub method-job : (jobs : List Name) (l : List ℕ) {j : ℕ} → j ≡ numberOf jobs (field l 1) → j ≡ numberOf jobs (nameIn l)
+unfolding nameIn
+method-job jobs l e = e
 
 pub body-room : (k n : ℕ) {m c : ℕ} → k + m ≤ c → n ≡ m → k + n ≤ c
 body-room k n h e = omega arith

@@ -1,5 +1,6 @@
 -- Computed facts, then laws by topic, then the functions.
 pub mod Computed
+pub mod Words
 pub mod FactList
 pub mod Counts
 pub mod BodyList

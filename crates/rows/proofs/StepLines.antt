@@ -1,23 +1,25 @@
 -- The S lines, one after the other.
--- The lines passed have their words, and those left tell the rest.
+-- The lines passed stand in their words, and those left tell the rest.
 use mathlib.Core.Path.{_≡_, refl, sym, ap, _∙_}
 use mathlib.Core.Bool.{Bool, true, _&&_}
-use mathlib.Core.List.{List, [], _∷_}
+use mathlib.Core.List.{List}
 use mathlib.Core.Logic.{_⊎_, inl, inr}
-use Prim.Native.Nat.{ℕ, suc, _+_, _≤_, _<_}
+use Prim.Native.Nat.{ℕ, suc, _+_, _*_, _≤_, _<_}
 use native.Mathlib.Numerals.{add-one}
 use native.Mathlib.Omega.{arith}
-use lib.ListN.{length, getD, drop, set, length-set}
-use lib.Seq.{getD-set-same, getD-set-other, drop-cons, drop-length}
+use lib.ListN.{length, getD, drop}
+use lib.Seq.{drop-cons, drop-length}
 use Rattle.lists.specs.List.{all}
 use Rattle.lists.proofs.Bool.{and-on, and-assoc}
 use Rattle.lists.proofs.Order.{le-or-lt}
-use Rattle.lists.proofs.Place.{one-word}
 use Rattle.lines.specs.Parts.{Piece, noLine}
 use Rattle.grammar.specs.Name.{Name}
 use Rattle.rows.specs.Uses.{usesFacts}
 use Rattle.rows.specs.Row.{readStep}
-use Rattle.rows.specs.Answers.{factWords, stepWith, StepMeans, StepsMean}
+use Rattle.rows.specs.Words.{factWords, stepWords, wordsAt, stepAt, stored, Kept}
+use Rattle.rows.specs.Answers.{StepMeans, StepPut, StepsPut}
+use Rattle.rows.proofs.Words.{length-stored, kept-all, kept-stored, kept-both, words-stand, step-kept}
+use Rattle.bitset.specs.Set.{members}
 
 -- the test p over lines, i of which are passed: with the answer so far, those left tell the same as all
 pub record Telling (p : Piece → Bool) (ls : List Piece) (ok : Bool) (i : ℕ) : Type 0 where
@@ -39,44 +41,53 @@ telling-done {p} {ls} {ok} {i} u h =
     let q : i ≡ length ls = omega (arith, u .few) in
     sym (and-on ok) ∙ rw (q, drop-length ls) at (u .told)
 
--- The words of the lines passed ----------------------------------------------------------------------------------------------
+-- One line -------------------------------------------------------------------------------------------------------------------
+pub step-put : {fs : List Name} {l : List ℕ} {k : ℕ} {o o₁ o₂ o₃ : List ℕ} {ok : Bool} (x y z : List ℕ) → k + stepWords ≤ length o → StepMeans factWords fs l ok x y z
+    → o₁ ≡ stored o k x → o₂ ≡ stored o₁ (k + factWords) y → o₃ ≡ stored o₂ (k + 2 * factWords) z → StepPut fs l k o o₃ ok
+step-put {fs} {l} {k} {o} {o₁} {o₂} {o₃} x y z h m e₁ e₂ e₃ =
+    let l₁ : length o₁ ≡ length o = ap length e₁ ∙ length-stored o k x in
+    let l₂ : length o₂ ≡ length o₁ = ap length e₂ ∙ length-stored o₁ (k + factWords) y in
+    let k₃ : Kept (k + 2 * factWords) o₂ o₃ = kept-stored z e₃ in
+    let k₂ : Kept (k + factWords) o₁ o₃ = kept-both (omega arith) (kept-stored y e₂) k₃ in
+    let k₁ : Kept k o o₃ = kept-both (omega arith) (kept-stored x e₁) k₂ in
+    let a : wordsAt o₃ k factWords ≡ x = words-stand o k factWords x e₁ (m .wide .0) (omega arith) (omega arith) k₂ in
+    let b : wordsAt o₃ (k + factWords) factWords ≡ y = words-stand o₁ (k + factWords) factWords y e₂ (m .wide .1) (omega arith) (omega arith) k₃ in
+    let c : wordsAt o₃ (k + 2 * factWords) factWords ≡ z =
+    words-stand o₂ (k + 2 * factWords) factWords z e₃ (m .wide .2) (omega arith) (omega arith) (kept-all (k + stepWords) o₃) in
+    record {
+      told = m .told;
+      kept = k₁;
+      step = λ t. (λ i. record { needs = members (a i); sets = members (b i); clears = members (c i) }) ∙ m .step t;
+    }
+
+-- The lines passed -----------------------------------------------------------------------------------------------------------
 abbrev pub uses : List Name → Piece → Bool
 uses fs l = usesFacts fs (l .bytes)
 
-pub record Stepping (fs : List Name) (ls : List Piece) (ok : Bool) (xs ys zs : List ℕ) (i : ℕ) : Type 0 where
+pub record Stepping (fs : List Name) (ls : List Piece) (k : ℕ) (o₀ o : List ℕ) (ok : Bool) (i : ℕ) : Type 0 where
   pub telling : Telling (uses fs) ls ok i
-  pub wide : (length xs ≡ 64) × (length ys ≡ 64) × (length zs ≡ 64)
-  pub at : (j : ℕ) → j < i → uses fs (getD ls j noLine) ≡ true
-      → stepWith (getD xs j 0 ∷ []) (getD ys j 0 ∷ []) (getD zs j 0 ∷ []) ≡ readStep fs ((getD ls j noLine) .bytes)
+  pub same : length o ≡ length o₀
+  pub kept : Kept k o₀ o
+  pub step : (j : ℕ) → j < i → uses fs (getD ls j noLine) ≡ true → stepAt o (k + stepWords * j) ≡ readStep fs ((getD ls j noLine) .bytes)
 
-pub stepping-first : (fs : List Name) (ls : List Piece) {xs ys zs : List ℕ} → length xs ≡ 64 → length ys ≡ 64 → length zs ≡ 64 → Stepping fs ls true xs ys zs 0
-stepping-first fs ls a b c = record { telling = telling-first (uses fs) ls; wide = (a, b, c); at = λ j h. absurd (omega arith) }
+pub stepping-first : (fs : List Name) (ls : List Piece) (k : ℕ) (o : List ℕ) → Stepping fs ls k o o true 0
+stepping-first fs ls k o = record { telling = telling-first (uses fs) ls; same = refl; kept = kept-all k o; step = λ j h. absurd (omega arith) }
 
-module _ {fs : List Name} {ls : List Piece} {ok : Bool} {xs ys zs : List ℕ} {i : ℕ} (u : Stepping fs ls ok xs ys zs i) (h : i < length ls) (g : i < 64) where
-  pub stepping-more : (l : Piece) (t r : Bool) (x y z : List ℕ) → l ≡ getD ls i noLine → StepMeans factWords fs (l .bytes) t x y z → r ≡ (ok && t)
-      → Stepping fs ls r (set xs i (getD x 0 0)) (set ys i (getD y 0 0)) (set zs i (getD z 0 0)) (i + 1)
-  stepping-more l t r x y z e m d = record {
-    telling = telling-more t r (u .telling) h (m .told ∙ ap (uses fs) e) d;
-    wide = (length-set xs i (getD x 0 0) ∙ u .wide .0, length-set ys i (getD y 0 0) ∙ u .wide .1, length-set zs i (getD z 0 0) ∙ u .wide .2);
-    at = λ j k. go j k (le-or-lt i j);
-  }
-    where
-      stored-word : (ws w : List ℕ) → length ws ≡ 64 → length w ≡ 1 → getD (set ws i (getD w 0 0)) i 0 ∷ [] ≡ w
-      stored-word ws w l k = ap (λ (v : ℕ). v ∷ []) (getD-set-same ws i (getD w 0 0) 0 (omega (arith, l))) ∙ one-word w k
+pub stepping-more : {fs : List Name} {ls : List Piece} {k : ℕ} {o₀ o o′ : List ℕ} {ok : Bool} {i : ℕ} (l : Piece) (t r : Bool)
+    → Stepping fs ls k o₀ o ok i → i < length ls → l ≡ getD ls i noLine → length o′ ≡ length o
+    → StepPut fs (l .bytes) (k + stepWords * i) o o′ t → r ≡ (ok && t) → Stepping fs ls k o₀ o′ r (i + 1)
+stepping-more {fs} {ls} {k} {o₀} {o} {o′} {ok} {i} l t r u h e w m d = record {
+  telling = telling-more t r (u .telling) h (m .told ∙ ap (uses fs) e) d;
+  same = w ∙ u .same;
+  kept = kept-both (omega arith) (u .kept) (m .kept);
+  step = λ j g. go j g (le-or-lt i j);
+}
+  where
+    go : (j : ℕ) → j < i + 1 → (i ≤ j) ⊎ (j < i) → uses fs (getD ls j noLine) ≡ true → stepAt o′ (k + stepWords * j) ≡ readStep fs ((getD ls j noLine) .bytes)
+    go j g (inl n) t =
+        let q : j ≡ i = omega arith in
+        rw q (m .step (rw (e, ← q) t) ∙ ap (λ (p : Piece). readStep fs (p .bytes)) e)
+    go j g (inr n) t = step-kept (k + stepWords * j) (omega arith) (m .kept) ∙ u .step j n t
 
-      same-step : {a b c a′ b′ c′ : List ℕ} → a ≡ a′ → b ≡ b′ → c ≡ c′ → stepWith a b c ≡ stepWith a′ b′ c′
-      same-step p q r = λ k. stepWith (p k) (q k) (r k)
-
-      go : (j : ℕ) → j < i + 1 → (i ≤ j) ⊎ (j < i) → uses fs (getD ls j noLine) ≡ true
-          → stepWith (getD (set xs i (getD x 0 0)) j 0 ∷ []) (getD (set ys i (getD y 0 0)) j 0 ∷ []) (getD (set zs i (getD z 0 0)) j 0 ∷ []) ≡ readStep fs ((getD ls j noLine) .bytes)
-      go j k (inl n) o =
-          let q : j ≡ i = omega arith in
-          let a = stored-word xs x (u .wide .0) (m .wide .0) in
-          let b = stored-word ys y (u .wide .1) (m .wide .1) in
-          let c = stored-word zs z (u .wide .2) (m .wide .2) in
-          rw q (same-step a b c ∙ m .step (rw (e, ← q) o) ∙ ap (λ (p : Piece). readStep fs (p .bytes)) e)
-      go j k (inr n) o =
-          rw (getD-set-other xs i j (getD x 0 0) 0 (λ q. omega arith), getD-set-other ys i j (getD y 0 0) 0 (λ q. omega arith), getD-set-other zs i j (getD z 0 0) 0 (λ q. omega arith)) (u .at j n o)
-
-pub stepping-done : {fs : List Name} {ls : List Piece} {ok : Bool} {xs ys zs : List ℕ} {i : ℕ} → Stepping fs ls ok xs ys zs i → length ls ≤ i → StepsMean fs ls ok xs ys zs
-stepping-done u h = record { told = telling-done (u .telling) h; at = λ j k. u .at j (omega arith) }
+pub stepping-done : {fs : List Name} {ls : List Piece} {k : ℕ} {o₀ o : List ℕ} {ok : Bool} {i : ℕ} → Stepping fs ls k o₀ o ok i → length ls ≤ i → StepsPut fs ls k o₀ o ok
+stepping-done u h = record { told = telling-done (u .telling) h; kept = u .kept; step = λ j g. u .step j (omega arith) }

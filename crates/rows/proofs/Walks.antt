@@ -8,10 +8,12 @@ use lib.ListN.{length, getD, take}
 use lib.Seq.{getD-take}
 use Rattle.lines.specs.Parts.{Piece, linesOf, noLine}
 use Rattle.lines.specs.Cut.{linesFrom}
+use Rattle.planning.specs.Table.{mostInBody}
 use Rattle.outline.specs.Sections.{sections}
 use Rattle.outline.specs.declared.Shape.{Shape}
 use Rattle.grammar.specs.Line.{bodyIn}
 use Rattle.outline.proofs.Questions.{step-lines, steps-few, method-lines, methods-few}
+use Rattle.rows.specs.Words.{stepWords, methodWords}
 use Rattle.rows.specs.Answers.{Ready}
 use Rattle.rows.proofs.MethodLines.{body-short}
 
@@ -45,9 +47,12 @@ module _ {s : List ℕ} {h : Shape} {starts sizes : List ℕ} (u : Ready s h sta
     pub method-line : (l : Piece) → i < h .methods → l ≡ getD (linesFrom s (h .«methods_at»)) i noLine → l ≡ getD ((sections (linesOf s)) .methods) i noLine
     method-line l k e = e ∙ taken-line (linesFrom s (h .«methods_at»)) ((sections (linesOf s)) .methods) (h .methods) i (method-lines (u .shaped)) k
 
-    -- a method's eight places, and its body's length
-    pub body-fits : (l : Piece) → i < h .methods → l ≡ getD ((sections (linesOf s)) .methods) i noLine → length (bodyIn (l .bytes)) ≤ 8
+    pub body-fits : (l : Piece) → i < h .methods → l ≡ getD ((sections (linesOf s)) .methods) i noLine → length (bodyIn (l .bytes)) ≤ mostInBody
     body-fits l k e = rw e (body-short ((sections (linesOf s)) .methods) (u .bodies) i (omega (arith, methods-count)))
 
-    pub body-places : {n c : ℕ} → i < h .methods → n ≤ 8 → c ≡ 1024 → i * 8 + n ≤ c
-    body-places k m e = omega (arith, u .methods)
+-- the words of line i, where the buffer has room for those of all lines
+pub step-room : (k n i : ℕ) {c c₀ : ℕ} → i < n → k + stepWords * n ≤ c₀ → c ≡ c₀ → k + stepWords * i + stepWords ≤ c
+step-room k n i h r e = omega arith
+
+pub method-room : (k n i m : ℕ) {c c₀ : ℕ} → i < n → m ≤ mostInBody → k + methodWords * n ≤ c₀ → c ≡ c₀ → k + methodWords * i + 2 + m ≤ c
+method-room k n i m h g r e = omega arith

@@ -2,9 +2,9 @@
 -- Assumes nothing.
 use mathlib.Core.Path.{_≡_}
 use mathlib.Core.Bool.{Bool, true, _&&_}
-use mathlib.Core.List.{List, [], _∷_, map}
-use Prim.Native.Nat.{ℕ, _+_, _*_, _≤_, _<_, suc}
-use lib.ListN.{length, getD, set}
+use mathlib.Core.List.{List, [], map}
+use Prim.Native.Nat.{ℕ, _+_, _*_, _≤_, _<_}
+use lib.ListN.{length, getD}
 use Rattle.lists.specs.List.{all}
 use Rattle.bitset.specs.Set.{members}
 use Rattle.planning.specs.Table.{Step}
@@ -18,6 +18,7 @@ use Rattle.outline.specs.Index.{Shaped, Indexed}
 use Rattle.outline.specs.declared.Shape.{Shape}
 use Rattle.rows.specs.Uses.{areFacts, usesFacts, usesTasks, factsOf}
 use Rattle.rows.specs.Row.{readStep}
+use Rattle.rows.specs.Words.{factWords, stepWords, methodWords, stepAt, stored, Kept}
 
 -- what questions 2 to 6, met, tell of a file: its shape and its names are known, and within the limits
 pub record Ready (s : List ℕ) (h : Shape) (starts sizes : List ℕ) : Type 0 where
@@ -29,10 +30,6 @@ pub record Ready (s : List ℕ) (h : Shape) (starts sizes : List ℕ) : Type 0 w
   pub methods : h .methods ≤ 128
   pub bodies : all short ((sections (linesOf s)) .methods) ≡ true
   pub ends : met4 (sections (linesOf s)) ≡ true
-
--- how many words a set of facts has, 64 facts a word
-abbrev pub factWords : ℕ
-factWords = 1
 
 -- a list of facts, in n words: is question 7 met, and if so the set. Left free: the words, where it is not met
 pub record FactsMean (n : ℕ) (facts ns : List Name) (ok : Bool) (ws : List ℕ) : Type 0 where
@@ -50,42 +47,46 @@ pub record StepMeans (n : ℕ) (facts : List Name) (l : List ℕ) (ok : Bool) (x
   pub step : usesFacts facts l ≡ true → stepWith x y z ≡ readStep facts l
   pub wide : (length x ≡ n) × (length y ≡ n) × (length z ≡ n)
 
--- some S lines, with a word for each set of each line. Left free: the words of a line that does not meet question 7, and those past the last
--- line
-pub record StepsMean (facts : List Name) (ls : List Piece) (ok : Bool) (xs ys zs : List ℕ) : Type 0 where
+-- an S line put from the place k on, o before and o′ after. Left free: the words, where question 7 is not met
+pub record StepPut (facts : List Name) (l : List ℕ) (k : ℕ) (o o′ : List ℕ) (ok : Bool) : Type 0 where
+  pub told : ok ≡ usesFacts facts l
+  pub kept : Kept k o o′
+  pub step : usesFacts facts l ≡ true → stepAt o′ k ≡ readStep facts l
+
+-- some S lines, put one after the other. Left free: the words of a line that does not meet question 7, and all behind the last line's
+pub record StepsPut (facts : List Name) (ls : List Piece) (k : ℕ) (o o′ : List ℕ) (ok : Bool) : Type 0 where
   pub told : ok ≡ all (λ l. usesFacts facts (l .bytes)) ls
-  pub at : (i : ℕ) → i < length ls → usesFacts facts ((getD ls i noLine) .bytes) ≡ true
-      → stepWith (getD xs i 0 ∷ []) (getD ys i 0 ∷ []) (getD zs i 0 ∷ []) ≡ readStep facts ((getD ls i noLine) .bytes)
+  pub kept : Kept k o o′
+  pub step : (i : ℕ) → i < length ls → usesFacts facts ((getD ls i noLine) .bytes) ≡ true
+      → stepAt o′ (k + stepWords * i) ≡ readStep facts ((getD ls i noLine) .bytes)
 
--- l with xs stored from the place k on
-abbrev pub stored : List ℕ → ℕ → List ℕ → List ℕ
-stored l k [] = l
-stored l k (x ∷ xs) = stored (set l k x) (suc k) xs
-
--- a list of tasks, and the buffer o before and o′ after
-pub record BodyMeans (tasks ns : List Name) (k : ℕ) (o o′ : List ℕ) (ok : Bool) (n : ℕ) : Type 0 where
+-- a list of tasks, put from the place k on
+pub record BodyPut (tasks ns : List Name) (k : ℕ) (o o′ : List ℕ) (ok : Bool) (n : ℕ) : Type 0 where
   pub told : ok ≡ all (among tasks) ns
   pub size : n ≡ length ns
   pub contents : o′ ≡ stored o k (map (numberOf tasks) ns)
 
--- an M line, likewise
-pub record MethodMeans (jobs tasks : List Name) (l : List ℕ) (k : ℕ) (o o′ : List ℕ) (ok : Bool) (j n : ℕ) : Type 0 where
-  pub told : ok ≡ usesTasks jobs tasks l
-  pub owner : j ≡ numberOf jobs (nameIn l)
-  pub size : n ≡ length (bodyIn l)
-  pub contents : o′ ≡ stored o k (map (numberOf tasks) (bodyIn l))
+-- an M line in the words from place k on: its job, the size of its body and its tasks, by their numbers
+pub record MethodStands (jobs tasks : List Name) (l : List ℕ) (k : ℕ) (o : List ℕ) : Type 0 where
+  pub job : getD o k 0 ≡ numberOf jobs (nameIn l)
+  pub size : getD o (k + 1) 0 ≡ length (bodyIn l)
+  pub task : (j : ℕ) → j < length (bodyIn l) → getD o (k + 2 + j) 0 ≡ numberOf tasks (getD (bodyIn l) j [])
 
--- some M lines, with eight places for each line's body. Left free: the places behind a body's last task, and all that stands past the last line
-pub record MethodsMean (jobs tasks : List Name) (ls : List Piece) (ok : Bool) (owners sizes bodies : List ℕ) : Type 0 where
+-- an M line put there; some M lines, put one after the other. Left free: the places behind a body's last task, and all behind the last line's
+pub record MethodPut (jobs tasks : List Name) (l : List ℕ) (k : ℕ) (o o′ : List ℕ) (ok : Bool) : Type 0 where
+  pub told : ok ≡ usesTasks jobs tasks l
+  pub kept : Kept k o o′
+  pub stands : MethodStands jobs tasks l k o′
+
+pub record MethodsPut (jobs tasks : List Name) (ls : List Piece) (k : ℕ) (o o′ : List ℕ) (ok : Bool) : Type 0 where
   pub told : ok ≡ all (λ l. usesTasks jobs tasks (l .bytes)) ls
-  pub owner : (i : ℕ) → i < length ls → getD owners i 0 ≡ numberOf jobs (nameIn ((getD ls i noLine) .bytes))
-  pub size : (i : ℕ) → i < length ls → getD sizes i 0 ≡ length (bodyIn ((getD ls i noLine) .bytes))
-  pub task : (i j : ℕ) → i < length ls → j < length (bodyIn ((getD ls i noLine) .bytes))
-      → getD bodies (i * 8 + j) 0 ≡ numberOf tasks (getD (bodyIn ((getD ls i noLine) .bytes)) j [])
+  pub kept : Kept k o o′
+  pub stands : (i : ℕ) → i < length ls → MethodStands jobs tasks ((getD ls i noLine) .bytes) (k + methodWords * i) o′
 
 -- the I line and the R line. Left free: the words of the start, where question 7 is not met
 pub record EndsMean (p : Sections) (ok : Bool) (ws : List ℕ) (j k : ℕ) : Type 0 where
   pub told : ok ≡ (areFacts (declared p fact) (startIn (startLine p)) && among (declared p job) (nameIn (rootLine p)))
   pub set : areFacts (declared p fact) (startIn (startLine p)) ≡ true → members ws ≡ factsOf (declared p fact) (startIn (startLine p))
+  pub wide : length ws ≡ factWords
   pub root : j ≡ numberOf (declared p job) (nameIn (rootLine p))
   pub depth : k ≡ depthIn (rootLine p)

@@ -4,5 +4,7 @@
 pub mod Uses
 -- the lines of steps and methods
 pub mod Row
+-- the words that steps and methods are kept as
+pub mod Words
 -- what the code's answers mean
 pub mod Answers

@@ -1,9 +1,9 @@
-// The lines of a table file as numbers, and question 7: fact lists as sets, bodies as tasks, the start, the root job and the depth. What
-// looks a name up asks that questions 2 to 6 are met (`Ready`); the read of crate `table` puts them first. Inside the reader, as crate
-// `grammar` is.
+// The lines of a table file as words, and question 7: fact lists as sets, bodies as tasks, the start, the root job and the depth. What
+// looks a name up asks that questions 2 to 6 are met (`Ready`); the read of crate `table` puts them first. Each `put_` function writes words
+// from a place on and leaves those before it as they were. Inside the reader, as crate `grammar` is.
 ghost use mathlib.Core.Path.{_≡_};
 ghost use mathlib.Core.Bool.{_&&_};
-ghost use Prim.Native.Nat.{_+_, _-_, _≤_};
+ghost use Prim.Native.Nat.{_+_, _-_, _*_, _≤_};
 ghost use lib.ListN.{length, getD};
 ghost use lib.Seq.{slice};
 ghost use Rattle.lines.specs.Parts.{linesOf};
@@ -11,17 +11,25 @@ ghost use Rattle.grammar.specs.Name.{namesIn};
 ghost use Rattle.grammar.specs.Line.{bodyIn};
 ghost use Rattle.outline.specs.Sections.{sections};
 ghost use Rattle.outline.specs.Names.{fact, job, task, declared};
-ghost use Rattle.rows.specs.Answers.{Ready, factWords, FactsMean, StepMeans, StepsMean, BodyMeans, MethodMeans, MethodsMean, EndsMean};
+ghost use Rattle.rows.specs.Words.{factWords, stepWords, methodWords, stored};
+ghost use Rattle.rows.specs.Answers.{Ready, FactsMean, StepMeans, StepPut, StepsPut, BodyPut, MethodPut, MethodsPut, EndsMean};
 use grammar::field_at;
 use grammar::is_hyphen;
 use lines::cut;
 use outline::Kind;
+use outline::MOST_IN_BODY;
 use outline::Places;
 use outline::Shape;
 use outline::look_up;
 
-// A set of facts: a word for each 64 of them.
-pub type FactSet = [u64; 1];
+// The words of a set of facts, 64 facts a word; of a step, which is three sets; of a method: its job, the size of its body, and its tasks.
+pub const FACT_WORDS: usize = 1;
+
+pub const STEP_WORDS: usize = 3 * FACT_WORDS;
+
+pub const METHOD_WORDS: usize = 2 + MOST_IN_BODY;
+
+pub type FactSet = [u64; FACT_WORDS];
 
 // Both: as a call, so that what follows has one way to come.
 pub fn both(a: bool, b: bool) -> bool
@@ -48,7 +56,7 @@ fn fact_set<'a>(
     requires { ⌜ Ready (now s) h (now start) (now size) × (a ≤ b) × (b ≤ length (now s)) ⌝ }
     ensures { λ r. ⌜ FactsMean factWords (declared (sections (linesOf (now (s .entry)))) fact) (namesIn (slice a b (now (s .entry)))) (r .ok) (r .set) ⌝ }
 {
-    let mut w: FactSet = [0; 1];
+    let mut w: FactSet = [0; FACT_WORDS];
     if is_hyphen(s, a, b) {
         return Facts { ok: true, set: w };
     }
@@ -108,41 +116,66 @@ fn step_sets<'a>(
     }
 }
 
-// The S lines: whether question 7 is met, and a word for each set of each step.
-pub struct Steps {
-    pub ok: bool,
-    pub needs: [u64; 64],
-    pub sets: [u64; 64],
-    pub clears: [u64; 64],
+// The words of a set from the place at on.
+pub fn put_set(out: &mut [u64], at: usize, w: FactSet)
+    requires { ⌜ at + factWords ≤ length (now out) ⌝ }
+    ensures { λ _. ⌜ now (out .exit) ≡ stored (now (out .entry)) at w ⌝ }
+{
+    let mut i: usize = 0;
+    while i < FACT_WORDS {
+        out[at + i] = w[i];
+        i += 1;
+    }
 }
 
-pub fn read_steps<'a>(s: &[u8], start: &'a Places, size: &'a Places, h: Shape) -> Steps
-    requires { ⌜ Ready (now s) h (now start) (now size) ⌝ }
-    ensures { λ r. ⌜ StepsMean (declared (sections (linesOf (now (s .entry)))) fact) ((sections (linesOf (now (s .entry)))) .steps) (r .ok) (r .needs)
-        (r .sets) (r .clears) ⌝ }
+// The S line from a up to b as a step's words: is question 7 met?
+fn put_step<'a>(
+    s: &[u8],
+    start: &'a Places,
+    size: &'a Places,
+    h: Shape,
+    a: usize,
+    b: usize,
+    out: &mut [u64],
+    at: usize,
+) -> bool
+    requires { ⌜ Ready (now s) h (now start) (now size) × (a ≤ b) × (b ≤ length (now s)) × (at + stepWords ≤ length (now out)) ⌝ }
+    ensures { λ r. ⌜ StepPut (declared (sections (linesOf (now (s .entry)))) fact) (slice a b (now (s .entry))) at (now (out .entry)) (now (out .exit)) r ⌝ }
 {
-    let mut needs: [u64; 64] = [0; 64];
-    let mut sets: [u64; 64] = [0; 64];
-    let mut clears: [u64; 64] = [0; 64];
+    let x = step_sets(s, start, size, h, a, b);
+    let needs = x.needs;
+    let sets = x.sets;
+    let clears = x.clears;
+    put_set(out, at, needs);
+    put_set(out, at + FACT_WORDS, sets);
+    put_set(out, at + 2 * FACT_WORDS, clears);
+    x.ok
+}
+
+// The S lines, one step after the other.
+pub fn put_steps<'a>(
+    s: &[u8],
+    start: &'a Places,
+    size: &'a Places,
+    h: Shape,
+    out: &mut [u64],
+    at: usize,
+) -> bool
+    requires { ⌜ Ready (now s) h (now start) (now size) × (at + stepWords * h .steps ≤ length (now out)) ⌝ }
+    ensures { λ r. ⌜ StepsPut (declared (sections (linesOf (now (s .entry)))) fact) ((sections (linesOf (now (s .entry)))) .steps) at (now (out .entry))
+        (now (out .exit)) r ⌝ }
+{
     let mut ok = true;
     let mut i = 0;
     let mut a = h.steps_at;
     while i < h.steps {
         let b = cut(s, a, s.len(), b'\n');
-        let t = step_sets(s, start, size, h, a, b);
-        needs[i] = t.needs[0];
-        sets[i] = t.sets[0];
-        clears[i] = t.clears[0];
-        ok = both(ok, t.ok);
+        let met = put_step(s, start, size, h, a, b, out, at + STEP_WORDS * i);
+        ok = both(ok, met);
         i += 1;
         a = b + 1;
     }
-    Steps {
-        ok: ok,
-        needs: needs,
-        sets: sets,
-        clears: clears,
-    }
+    ok
 }
 
 // A body: whether question 7 is met, and how many tasks it has.
@@ -151,21 +184,21 @@ struct Body {
     size: usize,
 }
 
-// The body from a up to b: its tasks' numbers go to the buffer from the place at on.
-fn read_body<'a>(
+// The body from a up to b: its tasks' numbers.
+fn put_body<'a>(
     s: &[u8],
     start: &'a Places,
     size: &'a Places,
     h: Shape,
     a: usize,
     b: usize,
-    bodies: &mut [u8],
+    out: &mut [u64],
     at: usize,
 ) -> Body
     requires { ⌜ Ready (now s) h (now start) (now size) × (a ≤ b) × (b ≤ length (now s))
-        × (at + length (namesIn (slice a b (now s))) ≤ length (now bodies)) ⌝ }
-    ensures { λ r. ⌜ BodyMeans (declared (sections (linesOf (now (s .entry)))) task) (namesIn (slice a b (now (s .entry)))) at (now (bodies .entry))
-        (now (bodies .exit)) (r .ok) (r .size) ⌝ }
+        × (at + length (namesIn (slice a b (now s))) ≤ length (now out)) ⌝ }
+    ensures { λ r. ⌜ BodyPut (declared (sections (linesOf (now (s .entry)))) task) (namesIn (slice a b (now (s .entry)))) at (now (out .entry))
+        (now (out .exit)) (r .ok) (r .size) ⌝ }
 {
     if is_hyphen(s, a, b) {
         return Body { ok: true, size: 0 };
@@ -177,7 +210,7 @@ fn read_body<'a>(
         let e = cut(s, i, b, b',');
         let k = look_up(s, start, size, h.facts, h.steps, h.jobs, Kind::Task, i, e);
         ok = both(ok, k < h.steps + h.jobs);
-        bodies[at + n] = k as u8;
+        out[at + n] = k as u64;
         n += 1;
         if e == b {
             return Body { ok: ok, size: n };
@@ -186,27 +219,20 @@ fn read_body<'a>(
     }
 }
 
-// An M line: whether question 7 is met, its job, and how many tasks its body has.
-struct Method {
-    ok: bool,
-    owner: usize,
-    size: usize,
-}
-
-// The M line from a up to b: its body's tasks go to the buffer from the place at on.
-fn read_method<'a>(
+// The M line from a up to b as a method's words: is question 7 met?
+fn put_method<'a>(
     s: &[u8],
     start: &'a Places,
     size: &'a Places,
     h: Shape,
     a: usize,
     b: usize,
-    bodies: &mut [u8],
+    out: &mut [u64],
     at: usize,
-) -> Method
-    requires { ⌜ Ready (now s) h (now start) (now size) × (a ≤ b) × (b ≤ length (now s)) × (at + length (bodyIn (slice a b (now s))) ≤ length (now bodies)) ⌝ }
-    ensures { λ r. ⌜ MethodMeans (declared (sections (linesOf (now (s .entry)))) job) (declared (sections (linesOf (now (s .entry)))) task)
-        (slice a b (now (s .entry))) at (now (bodies .entry)) (now (bodies .exit)) (r .ok) (r .owner) (r .size) ⌝ }
+) -> bool
+    requires { ⌜ Ready (now s) h (now start) (now size) × (a ≤ b) × (b ≤ length (now s)) × (at + 2 + length (bodyIn (slice a b (now s))) ≤ length (now out)) ⌝ }
+    ensures { λ r. ⌜ MethodPut (declared (sections (linesOf (now (s .entry)))) job) (declared (sections (linesOf (now (s .entry)))) task)
+        (slice a b (now (s .entry))) at (now (out .entry)) (now (out .exit)) r ⌝ }
 {
     let f = field_at(s, a, b, 1);
     let j = look_up(
@@ -221,48 +247,36 @@ fn read_method<'a>(
         f.to,
     );
     let g = field_at(s, a, b, 2);
-    let t = read_body(s, start, size, h, g.from, g.to, bodies, at);
-    Method {
-        ok: both(j < h.jobs, t.ok),
-        owner: j,
-        size: t.size,
-    }
+    let t = put_body(s, start, size, h, g.from, g.to, out, at + 2);
+    out[at] = j as u64;
+    out[at + 1] = t.size as u64;
+    both(j < h.jobs, t.ok)
 }
 
-// The M lines: whether question 7 is met, and each method's job, size and eight places for its tasks.
-pub struct Methods {
-    pub ok: bool,
-    pub owners: [u8; 128],
-    pub sizes: [u8; 128],
-    pub bodies: [u8; 1024],
-}
-
-pub fn read_methods<'a>(s: &[u8], start: &'a Places, size: &'a Places, h: Shape) -> Methods
-    requires { ⌜ Ready (now s) h (now start) (now size) ⌝ }
-    ensures { λ r. ⌜ MethodsMean (declared (sections (linesOf (now (s .entry)))) job) (declared (sections (linesOf (now (s .entry)))) task)
-        ((sections (linesOf (now (s .entry)))) .methods) (r .ok) (r .owners) (r .sizes) (r .bodies) ⌝ }
+// The M lines, one method after the other.
+pub fn put_methods<'a>(
+    s: &[u8],
+    start: &'a Places,
+    size: &'a Places,
+    h: Shape,
+    out: &mut [u64],
+    at: usize,
+) -> bool
+    requires { ⌜ Ready (now s) h (now start) (now size) × (at + methodWords * h .methods ≤ length (now out)) ⌝ }
+    ensures { λ r. ⌜ MethodsPut (declared (sections (linesOf (now (s .entry)))) job) (declared (sections (linesOf (now (s .entry)))) task)
+        ((sections (linesOf (now (s .entry)))) .methods) at (now (out .entry)) (now (out .exit)) r ⌝ }
 {
-    let mut owners: [u8; 128] = [0; 128];
-    let mut sizes: [u8; 128] = [0; 128];
-    let mut bodies: [u8; 1024] = [0; 1024];
     let mut ok = true;
     let mut i = 0;
     let mut a = h.methods_at;
     while i < h.methods {
         let b = cut(s, a, s.len(), b'\n');
-        let m = read_method(s, start, size, h, a, b, &mut bodies, i * 8);
-        owners[i] = m.owner as u8;
-        sizes[i] = m.size as u8;
-        ok = both(ok, m.ok);
+        let m = put_method(s, start, size, h, a, b, out, at + METHOD_WORDS * i);
+        ok = both(ok, m);
         i += 1;
         a = b + 1;
     }
-    Methods {
-        ok: ok,
-        owners: owners,
-        sizes: sizes,
-        bodies: bodies,
-    }
+    ok
 }
 
 // The number that the first byte of the part from a up to b says as a digit.

@@ -1,4 +1,4 @@
-// How long the loops are that the cursor goes through: by rule, node, letter and row. `ws` is the table's sheet and `ix` its index.
+// How long the loops are that the cursor goes through: by rule, node, letter and row. `ws` is the table and `ix` its index.
 ghost use mathlib.Core.Path.{_≡_};
 ghost use mathlib.Core.Bool.{cond};
 ghost use Prim.Native.Nat.{_+_, _≤_, _<_};
@@ -6,7 +6,7 @@ ghost use lib.Dec.{eqb};
 ghost use lib.ListN.{length, getD};
 ghost use Rattle.bitset.specs.Set.{members};
 ghost use Rattle.planning.specs.Accepted.{Accepted};
-ghost use Rattle.sheet.specs.Sheet.{tableIn};
+ghost use Rattle.table.specs.Layout.{tableIn};
 ghost use Rattle.places.specs.ClausePlace.{childAt, width as childWidth, tasksN, methodAt, methodVar, namedAt, slotAt, noGroup, nodeGroups};
 ghost use Rattle.places.specs.ClausePlace.{slotGroups, effectFacts, groupAt, nodesIn, groupsIn, rowLen};
 ghost use Rattle.index.specs.Index.{source, SlotAt};
@@ -88,7 +88,7 @@ pub fn is_named(ws: &[u64], ix: &[u64], n: usize, x: usize, y: usize) -> bool
     requires { ⌜ InNode (tableIn (now ws)) (now ix) n × (x < length ((node (tableIn (now ws)) n) .methods)) ⌝ }
     ensures { λ r. ⌜ r ≡ namedAt (tableIn (now (ws .entry))) (node (tableIn (now (ws .entry))) n) x y ⌝ }
 {
-    y < sheet::body_size(ws, method(ws, ix, n, x))
+    y < table::body_size(ws, method(ws, ix, n, x))
 }
 
 // Letters (a) to (g) of node n: how many columns each has, how many rows a column, how many clauses a row.
@@ -194,13 +194,13 @@ pub fn effects(ws: &[u64], s: usize, y: usize) -> FactSet
     ensures { λ r. ⌜ members r ≡ effectFacts (tableIn (now (ws .entry))) s y ⌝ }
 {
     if y == 0 {
-        return sheet::needs(ws, s);
+        return table::needs(ws, s);
     }
     if y == 1 {
-        return sheet::sets(ws, s);
+        return table::sets(ws, s);
     }
-    let mut facts = sheet::clears(ws, s);
-    let sets = sheet::sets(ws, s);
+    let mut facts = table::clears(ws, s);
+    let sets = table::sets(ws, s);
     bitset::subtract(&mut facts, &sets);
     facts
 }
@@ -222,7 +222,7 @@ fn slot_xs(ws: &[u64], ix: &[u64], n: usize, g: usize) -> usize
     if g == 0 {
         return slot_size(ws, ix, n);
     }
-    sheet::facts(ws)
+    table::facts(ws)
 }
 
 fn slot_ys(ws: &[u64], n: usize, g: usize) -> usize
@@ -313,7 +313,7 @@ pub fn len_in(ws: &[u64], ix: &[u64], r: usize, n: usize, g: usize, x: usize, y:
         return slot_len(ws, ix, n, g, x, y);
     }
     if r == 2 {
-        return sheet::facts(ws);
+        return table::facts(ws);
     }
     1
 }

@@ -1,8 +1,7 @@
 // The cases of the reader: a table that is read is written line by line, with numbers for names that are used. A task is `s` or `j` and its
-// number.
+// number. `ws` is the table.
 use crate::print;
 use table::FactSet;
-use table::Table;
 use table::Task;
 
 // The facts of a set, rising, among so many facts; a hyphen where there is none.
@@ -24,38 +23,38 @@ fn print_set(set: FactSet, facts: usize) {
     }
 }
 
-fn print_facts(t: Table, file: &[u8]) {
+fn print_facts(file: &[u8], ws: &[u64]) {
     let mut i: usize = 0;
-    while i < t.facts() {
+    while i < table::facts(ws) {
         print::bytes(b"F\t");
-        print::bytes(t.fact_name(file, i));
+        print::bytes(table::fact_name(file, ws, i));
         print::line_end();
         i += 1;
     }
 }
 
-fn print_steps(t: Table, file: &[u8]) {
-    let n = t.facts();
+fn print_steps(file: &[u8], ws: &[u64]) {
+    let n = table::facts(ws);
     let mut i: usize = 0;
-    while i < t.steps() {
+    while i < table::steps(ws) {
         print::bytes(b"S\t");
-        print::bytes(t.step_name(file, i));
+        print::bytes(table::step_name(file, ws, i));
         print::tab();
-        print_set(t.needs(i), n);
+        print_set(table::needs(ws, i), n);
         print::tab();
-        print_set(t.sets(i), n);
+        print_set(table::sets(ws, i), n);
         print::tab();
-        print_set(t.clears(i), n);
+        print_set(table::clears(ws, i), n);
         print::line_end();
         i += 1;
     }
 }
 
-fn print_jobs(t: Table, file: &[u8]) {
+fn print_jobs(file: &[u8], ws: &[u64]) {
     let mut i: usize = 0;
-    while i < t.jobs() {
+    while i < table::jobs(ws) {
         print::bytes(b"T\t");
-        print::bytes(t.job_name(file, i));
+        print::bytes(table::job_name(file, ws, i));
         print::line_end();
         i += 1;
     }
@@ -75,8 +74,8 @@ fn print_task(task: Task) {
     }
 }
 
-fn print_body(t: Table, m: usize) {
-    let n = t.body_size(m);
+fn print_body(ws: &[u64], m: usize) {
+    let n = table::body_size(ws, m);
     if n == 0 {
         print::bytes(b"-");
     }
@@ -85,30 +84,30 @@ fn print_body(t: Table, m: usize) {
         if j > 0 {
             print::bytes(b",");
         }
-        print_task(t.task(m, j));
+        print_task(table::body_task(ws, m, j));
         j += 1;
     }
 }
 
-fn print_methods(t: Table) {
+fn print_methods(ws: &[u64]) {
     let mut m: usize = 0;
-    while m < t.methods() {
+    while m < table::methods(ws) {
         print::bytes(b"M\t");
-        print::number(t.job_of(m));
+        print::number(table::job_of(ws, m));
         print::tab();
-        print_body(t, m);
+        print_body(ws, m);
         print::line_end();
         m += 1;
     }
 }
 
-fn print_ends(t: Table) {
+fn print_ends(ws: &[u64]) {
     print::bytes(b"I\t");
-    print_set(t.start(), t.facts());
+    print_set(table::start(ws), table::facts(ws));
     print::bytes(b"\nR\t");
-    print::number(t.root());
+    print::number(table::root(ws));
     print::tab();
-    print::number(t.depth());
+    print::number(table::depth(ws));
     print::line_end();
 }
 
@@ -119,10 +118,10 @@ pub fn read(file: &[u8]) {
         print::refused(outcome.question);
         print::line_end();
     } else {
-        print_facts(outcome.table, file);
-        print_steps(outcome.table, file);
-        print_jobs(outcome.table, file);
-        print_methods(outcome.table);
-        print_ends(outcome.table);
+        print_facts(file, &outcome.table);
+        print_steps(file, &outcome.table);
+        print_jobs(file, &outcome.table);
+        print_methods(&outcome.table);
+        print_ends(&outcome.table);
     }
 }

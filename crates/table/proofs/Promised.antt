@@ -29,12 +29,12 @@ use Rattle.outline.specs.Outlined.{questions2to5, questions2to6}
 use Rattle.rows.specs.Uses.{areFacts, usesFacts, usesTasks, met7, factsOf, taskOf}
 use Rattle.rows.specs.Row.{readStep, readMethod}
 use Rattle.table.specs.Promises.{Promised, Promises, namesAt, allNames}
-use Rattle.table.proofs.Depth.{deep-root, all-past}
+use Rattle.table.proofs.RootLine.{deep-root, all-past}
 use Rattle.table.proofs.Shown.{stands-lines, stands-leading, stands-past, stands-all}
 use Rattle.outline.proofs.Questions.{counts-small}
 use Rattle.rows.proofs.Counts.{number-in}
 use Rattle.lists.proofs.Every.{every-append, every-imp}
-use Rattle.table.specs.Layout.{tableFrom, namePartsFrom, readingOf}
+use Rattle.table.specs.Layout.{tableIn, namePartsIn, readingOf}
 use Rattle.table.proofs.Formed.{names-formed, begins-F, begins-S, begins-T}
 
 -- Numbers of names -----------------------------------------------------------------------------------------------------------
@@ -246,7 +246,7 @@ promises = record {
       let p = sections (linesOf s) in
       let r = verdict-refused (firstUnmet (questions2to7 s)) n (readTable p) (namePartsOf p) e in
       among-seven s n (r .0) (r .1);
-  read = λ s r u z. taken s (tableFrom (r .table)) (namePartsFrom (r .table)) (sym (u .read) ∙ passed-by (r .question) (tableFrom (r .table)) (namePartsFrom (r .table)) z);
-  read-as = λ s r u z. sym (u .read) ∙ passed-by (r .question) (tableFrom (r .table)) (namePartsFrom (r .table)) z;
-  turned-down = λ s r u n. sym (u .read) ∙ refused-by (r .question) (tableFrom (r .table)) (namePartsFrom (r .table)) n;
+  read = λ s r u z. taken s (tableIn (r .table)) (namePartsIn (r .table)) (sym (u .read) ∙ passed-by (r .question) (tableIn (r .table)) (namePartsIn (r .table)) z);
+  read-as = λ s r u z. sym (u .read) ∙ passed-by (r .question) (tableIn (r .table)) (namePartsIn (r .table)) z;
+  turned-down = λ s r u n. sym (u .read) ∙ refused-by (r .question) (tableIn (r .table)) (namePartsIn (r .table)) n;
 }

@@ -12,7 +12,7 @@ use Rattle.lines.specs.Bytes.{sameBytes}
 use Rattle.grammar.specs.Name.{Name}
 use Rattle.outline.specs.Names.{among, numberOf}
 use Rattle.rows.specs.Uses.{taskOf}
-use Rattle.table.specs.Layout.{taskAt}
+use Rattle.rows.specs.Words.{taskAt}
 
 number-left : (xs ys : List Name) (n : Name) → among xs n ≡ true → (numberOf (xs ++ ys) n ≡ numberOf xs n) × (numberOf xs n < length xs)
 unfolding among numberOf

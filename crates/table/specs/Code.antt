@@ -1,40 +1,27 @@
--- Inside the reader, nothing to believe: the read table as the code puts it together and looks into it.
+-- Inside the reader, nothing to believe: what the read's parts put into the words, o before and o′ after, and what its look-ups read there.
 -- Assumes nothing.
-use mathlib.Core.Bool.{cond, _&&_}
-use mathlib.Core.List.{List}
-use mathlib.Core.Option.{Option, none, some}
-use Prim.Native.Nat.{ℕ, _+_, _*_}
+use mathlib.Core.Path.{_≡_}
+use mathlib.Core.Bool.{cond}
+use mathlib.Core.List.{List, [], _∷_, _++_}
+use Prim.Native.Nat.{ℕ, _+_, _*_, _<_}
 use lib.Dec.{ltb}
-use lib.ListN.{getD}
-use Rattle.planning.specs.Table.{Task as PlanningTask}
-use Rattle.outline.specs.declared.Shape.{Shape}
-use Rattle.outline.specs.declared.Spans.{Spans}
-use Rattle.rows.specs.declared.Steps.{Steps}
-use Rattle.rows.specs.declared.Methods.{Methods}
-use Rattle.rows.specs.declared.Ends.{Ends}
-use Rattle.table.specs.Layout.{taskAt}
-use Rattle.table.specs.declared.Table.{Table as ReadTable}
+use lib.ListN.{getD, replicate}
+use Rattle.lines.specs.Part.{Part}
+use Rattle.rows.specs.Words.{factWords, stepWords, methodWords, wordsAt, Kept}
+use Rattle.table.specs.Layout.{stepsAt, methodsAt, partsAt, stepsIn, methodsIn, partAt}
 
--- the table that the code puts together from a file's shape, its names and its lines
-abbrev pub tableWith : Shape → Spans → Steps → Methods → Ends → ReadTable
-tableWith h n x m e = record {
-  facts = h .facts;
-  steps = h .steps;
-  jobs = h .jobs;
-  methods = h .methods;
-  starts = n .start;
-  lengths = n .size;
-  needs = x .needs;
-  sets = x .sets;
-  clears = x .clears;
-  owners = m .owners;
-  sizes = m .sizes;
-  bodies = m .bodies;
-  start = e .start;
-  root = e .root;
-  depth = e .depth;
-}
+-- the counts, the root job, the depth and the start
+abbrev pub front : (facts steps jobs methods root depth : ℕ) (start : List ℕ) → List ℕ
+front a b c d e f ws = (a ∷ b ∷ c ∷ d ∷ e ∷ f ∷ []) ++ ws
 
--- the task at place j of method m's body of n tasks, by the byte that it is kept as
-abbrev pub taskWith : (bodies : List ℕ) (steps methods n m j : ℕ) → Option PlanningTask
-taskWith bodies steps methods n m j = cond (ltb j n) (some (taskAt steps (cond (ltb m methods && ltb j 256) (getD bodies (m * 8 + j) 0) 0))) none
+-- the first n names
+pub record NamesPut (starts sizes : List ℕ) (n : ℕ) (o o′ : List ℕ) : Type 0 where
+  pub kept : Kept partsAt o o′
+  pub name : (i : ℕ) → i < n → _≡_ {A = Part} (partAt o′ i) (record { start = getD starts i 0; size = getD sizes i 0 })
+
+-- set k of step s (0 what it needs, 1 what it sets, 2 what it clears); word k of method m; none where there is no such step or method
+abbrev pub stepSet : List ℕ → (s k : ℕ) → List ℕ
+stepSet ws s k = cond (ltb s (stepsIn ws)) (wordsAt ws (stepsAt + stepWords * s + factWords * k) factWords) (replicate factWords 0)
+
+abbrev pub methodWord : List ℕ → (m k : ℕ) → ℕ
+methodWord ws m k = cond (ltb m (methodsIn ws)) (getD ws (methodsAt + methodWords * m + k) 0) 0

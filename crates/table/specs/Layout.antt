@@ -1,92 +1,88 @@
--- What the code's table means: the table of `planning` that it holds (`tableFrom`), and where its names stand (`namePartsFrom`).
--- Both are shut to other crates, which know them through the contracts of the calls and through Promises.
+-- What the words of a read table mean: the table of `planning` that they hold (`tableIn`), and where its names stand (`namePartsIn`).
+-- Both are shut to other crates, which know them through the contracts of the calls and through Promises. Every list of words means a table:
+-- past the last word there are zeros, and no count is above its limit, whatever its word says.
 -- Assumes nothing.
 use mathlib.Core.Path.{_≡_}
-use mathlib.Core.Bool.{cond}
-use mathlib.Core.List.{List, [], _∷_, map}
+use mathlib.Core.List.{List, map}
 use mathlib.Core.Option.{Option, none, some}
-use Prim.Native.Nat.{ℕ, _+_, _-_, _*_}
-use lib.Dec.{ltb}
+use Prim.Native.Nat.{ℕ, _+_, _*_, min}
 use lib.ListN.{getD, replicate}
 use Rattle.lists.specs.List.{from, upTo}
-use Rattle.bitset.specs.Set.{members}
-use Rattle.planning.specs.Table.{Task as PlanningTask, step, job, Step, Method, Table}
+use Rattle.planning.specs.Table.{Task as PlanningTask, step, job, Table, mostFacts, mostSteps, mostJobs, mostMethods}
 use Rattle.lines.specs.Part.{Part}
+use Rattle.outline.specs.Questions.{mostNames}
+use Rattle.rows.specs.Words.{factWords, stepWords, methodWords, setAt, stepAt, methodAt}
 use Rattle.table.specs.Reading.{NameParts, Reading, verdict, reading}
-use Rattle.table.specs.declared.Table.{Table as ReadTable}
 use Rattle.table.specs.declared.Outcome.{Outcome}
 use Rattle.table.specs.declared.Task.{Task}
 use Rattle.table.specs.declared.Task.the-variants.{Step as StepTask, Job as JobTask, Nothing}
 
--- a task by one number: steps first, then jobs
-abbrev pub taskAt : (steps : ℕ) → ℕ → PlanningTask
-taskAt n k = cond (ltb k n) (step k) (job (k - n))
+-- Where the words stand --------------------------------------------------------------------------------------------------------
+-- first how many facts, steps, jobs and methods there are, the root job and the depth, then the facts true at the start
+abbrev pub startAt : ℕ
+startAt = 6
 
--- step i: a word for each of its sets
-abbrev pub stepFrom : ReadTable → ℕ → Step
-stepFrom t i = record {
-  needs = members (getD (t .needs) i 0 ∷ []);
-  sets = members (getD (t .sets) i 0 ∷ []);
-  clears = members (getD (t .clears) i 0 ∷ []);
+-- the steps, the methods and the names: as many places as there may be
+abbrev pub stepsAt : ℕ
+stepsAt = startAt + factWords
+
+abbrev pub methodsAt : ℕ
+methodsAt = stepsAt + stepWords * mostSteps
+
+abbrev pub partsAt : ℕ
+partsAt = methodsAt + methodWords * mostMethods
+
+abbrev pub tableWords : ℕ
+tableWords = partsAt + 2 * mostNames
+
+-- What they mean ----------------------------------------------------------------------------------------------------------------
+abbrev pub factsIn : List ℕ → ℕ
+factsIn ws = min (getD ws 0 0) mostFacts
+
+abbrev pub stepsIn : List ℕ → ℕ
+stepsIn ws = min (getD ws 1 0) mostSteps
+
+abbrev pub jobsIn : List ℕ → ℕ
+jobsIn ws = min (getD ws 2 0) mostJobs
+
+abbrev pub methodsIn : List ℕ → ℕ
+methodsIn ws = min (getD ws 3 0) mostMethods
+
+-- Left free by the read: words that no look-up reads, which are those of steps, methods and names past the last, and of places behind a body's
+-- last task
+unfoldable pub tableIn : List ℕ → Table
+tableIn ws = record {
+  facts = factsIn ws;
+  steps = map (λ s. stepAt ws (stepsAt + stepWords * s)) (upTo (stepsIn ws));
+  jobs = jobsIn ws;
+  methods = map (λ m. methodAt (stepsIn ws) ws (methodsAt + methodWords * m)) (upTo (methodsIn ws));
+  start = setAt ws startAt;
+  root = getD ws 4 0;
+  depth = getD ws 5 0;
 }
 
--- method m: its job, and up to eight tasks from place m * 8 on
-abbrev pub methodFrom : ReadTable → ℕ → Method
-methodFrom t m = record {
-  of = getD (t .owners) m 0;
-  body = map (λ j. taskAt (t .steps) (getD (t .bodies) (m * 8 + j) 0)) (upTo (getD (t .sizes) m 0));
-}
+-- where a name stands, its first byte's place and its size: the facts' names come first, then the steps', then the jobs'
+abbrev pub partAt : List ℕ → ℕ → Part
+partAt ws i = record { start = getD ws (partsAt + 2 * i) 0; size = getD ws (partsAt + 2 * i + 1) 0 }
 
-unfoldable pub tableFrom : ReadTable → Table
-tableFrom t = record {
-  facts = t .facts;
-  steps = map (stepFrom t) (upTo (t .steps));
-  jobs = t .jobs;
-  methods = map (methodFrom t) (upTo (t .methods));
-  start = members (t .start);
-  root = t .root;
-  depth = t .depth;
-}
-
--- where a name stands: the facts' names come first, then the steps', then the jobs'
-abbrev pub partWith : (starts sizes : List ℕ) → ℕ → Part
-partWith starts sizes i = record { start = getD starts i 0; size = getD sizes i 0 }
-
-unfoldable pub namePartsFrom : ReadTable → NameParts
-namePartsFrom t = record {
-  facts = map (partWith (t .starts) (t .lengths)) (upTo (t .facts));
-  steps = map (partWith (t .starts) (t .lengths)) (from (t .facts) (t .steps));
-  jobs = map (partWith (t .starts) (t .lengths)) (from (t .facts + t .steps) (t .jobs));
-}
-
--- the table that stands beside a refusal: nothing in it
-abbrev pub noTable : ReadTable
-noTable = record {
-  facts = 0;
-  steps = 0;
-  jobs = 0;
-  methods = 0;
-  starts = replicate 192 0;
-  lengths = replicate 192 0;
-  needs = replicate 64 0;
-  sets = replicate 64 0;
-  clears = replicate 64 0;
-  owners = replicate 128 0;
-  sizes = replicate 128 0;
-  bodies = replicate 1024 0;
-  start = replicate 1 0;
-  root = 0;
-  depth = 0;
+unfoldable pub namePartsIn : List ℕ → NameParts
+namePartsIn ws = record {
+  facts = map (partAt ws) (upTo (factsIn ws));
+  steps = map (partAt ws) (from (factsIn ws) (stepsIn ws));
+  jobs = map (partAt ws) (from (factsIn ws + stepsIn ws) (jobsIn ws));
 }
 
 -- The answers of the calls ---------------------------------------------------------------------------------------------------
+-- the words beside a refusal
+abbrev pub noTable : List ℕ
+noTable = replicate tableWords 0
+
 -- the read: the number of the first question that is not met, 0 where all are, beside the table
 unfoldable pub readingOf : Outcome → Reading
-unfolding tableFrom namePartsFrom
-readingOf r = verdict (r .question) (tableFrom (r .table)) (namePartsFrom (r .table))
+unfolding tableIn namePartsIn
+readingOf r = verdict (r .question) (tableIn (r .table)) (namePartsIn (r .table))
 
--- the whole outcome: the reading, and nothing in the table beside a refusal. Left free: cells of a read table that no call shows, those past
--- the last of a count
+-- the whole outcome: the reading, and nothing in the table beside a refusal
 pub record Reads (s : List ℕ) (r : Outcome) : Type 0 where
   pub read : readingOf r ≡ reading s
   pub nothing : (r .question ≡ 0 → ⊥) → r .table ≡ noTable

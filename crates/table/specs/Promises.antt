@@ -11,7 +11,7 @@ use Rattle.lines.specs.Bytes.{sameBytes}
 use Rattle.lines.specs.Part.{Part}
 use Rattle.grammar.specs.Name.{Name, isName}
 use Rattle.table.specs.Reading.{NameParts, nameAt, refused, passed, reading}
-use Rattle.table.specs.Layout.{tableFrom, namePartsFrom, Reads}
+use Rattle.table.specs.Layout.{tableIn, namePartsIn, Reads}
 use Rattle.table.specs.declared.Outcome.{Outcome}
 
 -- the names that stand at some parts of the file s
@@ -43,6 +43,6 @@ pub record Promises : Type 0 where
   -- a refusal is by one of questions 2 to 7
   pub unmet : (s : List ℕ) (n : ℕ) → reading s ≡ refused n → (2 ≤ n) × (n ≤ 7)
   -- so what the call hands back is promised too, and its number is the first unmet question's
-  pub read : (s : List ℕ) (r : Outcome) → Reads s r → r .question ≡ 0 → Promised s (tableFrom (r .table)) (namePartsFrom (r .table))
-  pub read-as : (s : List ℕ) (r : Outcome) → Reads s r → r .question ≡ 0 → reading s ≡ passed (tableFrom (r .table)) (namePartsFrom (r .table))
+  pub read : (s : List ℕ) (r : Outcome) → Reads s r → r .question ≡ 0 → Promised s (tableIn (r .table)) (namePartsIn (r .table))
+  pub read-as : (s : List ℕ) (r : Outcome) → Reads s r → r .question ≡ 0 → reading s ≡ passed (tableIn (r .table)) (namePartsIn (r .table))
   pub turned-down : (s : List ℕ) (r : Outcome) → Reads s r → (r .question ≡ 0 → ⊥) → reading s ≡ refused (r .question)

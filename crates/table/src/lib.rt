@@ -1,108 +1,86 @@
-// The reader of table files: any bytes are turned down by the first unmet of questions 2 to 7, or become a table by value. Crates above
-// know a table through the calls of `Table` alone, whose contracts speak of the table of `planning` that it holds (`tableFrom`).
+// The reader of table files: any bytes are turned down by the first unmet of questions 2 to 7, or become a table, which is words by value.
+// Crates above know a table through the calls below alone, whose contracts speak of the table of `planning` that its words hold (`tableIn`);
+// where each word stands is said in specs/Layout. No look-up asks anything of the words or the numbers that it is handed.
 ghost use mathlib.Core.Path.{_≡_};
 ghost use mathlib.Core.Bool.{cond, _&&_};
-ghost use mathlib.Core.List.{[], _∷_, map};
 ghost use mathlib.Core.Option.{some};
 ghost use lib.Dec.{ltb};
-ghost use Prim.Native.Nat.{_+_, _*_, _≤_, _<_};
+ghost use Prim.Native.Nat.{_+_, _*_, _≤_, _<_, min};
 ghost use lib.ListN.{length, getD, take, drop, getElem?};
-ghost use Rattle.lists.specs.List.{upTo};
 ghost use Rattle.bitset.specs.Set.{members};
 ghost use Rattle.planning.specs.Table.{stepOf, jobOf, bodyOf};
 ghost use Rattle.lines.specs.Part.{bytesAt};
-ghost use Rattle.table.specs.Layout.{tableFrom, namePartsFrom, taskAt, taskFrom, noTable, partWith, noPart, Reads};
-ghost use Rattle.table.specs.Code.{taskWith, tableWith};
+ghost use Rattle.outline.specs.Questions.{mostNames};
+ghost use Rattle.rows.specs.Words.{factWords, wordsAt, taskAt, stored};
+ghost use Rattle.table.specs.Layout.{tableWords, tableIn, namePartsIn, taskFrom, partAt, noPart, Reads};
+ghost use Rattle.table.specs.Code.{front, NamesPut, stepSet, methodWord};
+use outline::MOST_FACTS;
+use outline::MOST_IN_BODY;
+use outline::MOST_JOBS;
+use outline::MOST_METHODS;
+use outline::MOST_NAMES;
+use outline::MOST_STEPS;
 use outline::Places;
 use outline::Shape;
-use outline::Spans;
 use outline::outline_of;
 use rows::Ends;
+use rows::FACT_WORDS;
 pub use rows::FactSet;
-use rows::Methods;
-use rows::Steps;
+use rows::METHOD_WORDS;
+use rows::STEP_WORDS;
 use rows::both;
+use rows::put_methods;
+use rows::put_set;
+use rows::put_steps;
 use rows::read_ends;
-use rows::read_methods;
-use rows::read_steps;
 
-// A table that was read. What its fields mean stands in specs/Layout, and no other crate looks at them.
-pub struct Table {
-    facts: u8,
-    steps: u8,
-    jobs: u8,
-    methods: u8,
-    starts: Places,
-    lengths: Places,
-    needs: [u64; 64],
-    sets: [u64; 64],
-    clears: [u64; 64],
-    owners: [u8; 128],
-    sizes: [u8; 128],
-    bodies: [u8; 1024],
-    start: FactSet,
-    root: usize,
-    depth: usize,
-}
+// Where the words of a table stand. The first six are how many facts, steps, jobs and methods there are, the root job and the depth; the
+// facts true at the start come next, then the steps, the methods and the names, a place and a size each.
+const START_AT: usize = 6;
+
+const STEPS_AT: usize = START_AT + FACT_WORDS;
+
+const METHODS_AT: usize = STEPS_AT + STEP_WORDS * MOST_STEPS;
+
+const PARTS_AT: usize = METHODS_AT + METHOD_WORDS * MOST_METHODS;
+
+pub const TABLE_WORDS: usize = PARTS_AT + 2 * MOST_NAMES;
+
+// A table that was read.
+pub type Words = [u64; TABLE_WORDS];
 
 // The number of the first question that is not met, 0 where all are met; then the table that was read.
 pub struct Outcome {
     pub question: usize,
-    pub table: Table,
+    pub table: Words,
 }
 
-fn table_of(h: Shape, n: Spans, x: Steps, m: Methods, e: Ends) -> Table
-    requires { ⌜ (h .facts ≤ 64) × (h .steps ≤ 64) × (h .jobs ≤ 64) × (h .methods ≤ 128) ⌝ }
-    ensures { λ r. ⌜ r ≡ tableWith h n x m e ⌝ }
+// The read -------------------------------------------------------------------------------------------------------------------
+// The counts, the root job, the depth and the start.
+fn put_front(h: Shape, e: Ends, out: &mut [u64])
+    requires { ⌜ tableWords ≤ length (now out) ⌝ }
+    ensures { λ _. ⌜ now (out .exit) ≡ stored (now (out .entry)) 0 (front (h .facts) (h .steps) (h .jobs) (h .methods) (e .root) (e .depth) (e .start)) ⌝ }
 {
-    let starts = n.start;
-    let lengths = n.size;
-    let needs = x.needs;
-    let sets = x.sets;
-    let clears = x.clears;
-    let owners = m.owners;
-    let sizes = m.sizes;
-    let bodies = m.bodies;
+    out[0] = h.facts as u64;
+    out[1] = h.steps as u64;
+    out[2] = h.jobs as u64;
+    out[3] = h.methods as u64;
+    out[4] = e.root as u64;
+    out[5] = e.depth as u64;
     let start = e.start;
-    Table {
-        facts: h.facts as u8,
-        steps: h.steps as u8,
-        jobs: h.jobs as u8,
-        methods: h.methods as u8,
-        starts: starts,
-        lengths: lengths,
-        needs: needs,
-        sets: sets,
-        clears: clears,
-        owners: owners,
-        sizes: sizes,
-        bodies: bodies,
-        start: start,
-        root: e.root,
-        depth: e.depth,
-    }
+    put_set(out, START_AT, start);
 }
 
-// What stands beside a refusal: nothing.
-fn no_table() -> Table
-    ensures { λ r. ⌜ r ≡ noTable ⌝ }
+// Where the first n names stand.
+fn put_names<'a>(starts: &'a Places, sizes: &'a Places, n: usize, out: &mut [u64])
+    requires { ⌜ (n ≤ mostNames) × (tableWords ≤ length (now out)) ⌝ }
+    ensures { λ _. ⌜ NamesPut (now (starts .entry)) (now (sizes .entry)) n (now (out .entry)) (now (out .exit)) ⌝ }
 {
-    Table {
-        facts: 0,
-        steps: 0,
-        jobs: 0,
-        methods: 0,
-        starts: [0; 192],
-        lengths: [0; 192],
-        needs: [0; 64],
-        sets: [0; 64],
-        clears: [0; 64],
-        owners: [0; 128],
-        sizes: [0; 128],
-        bodies: [0; 1024],
-        start: [0; 1],
-        root: 0,
-        depth: 0,
+    let mut i: usize = 0;
+    while i < n {
+        out[PARTS_AT + 2 * i] = starts[i] as u64;
+        out[PARTS_AT + 2 * i + 1] = sizes[i] as u64;
+        i += 1;
     }
 }
 
@@ -113,86 +91,193 @@ fn question_seven(a: bool, b: bool, c: bool) -> usize
     if both(a, both(b, c)) { 0 } else { 7 }
 }
 
-// Reads any bytes as a table file.
+// Reads any bytes as a table file. Parts are written in the order in which they stand, so that each keeps what the earlier ones put.
 pub fn read(file: &[u8]) -> Outcome
     ensures { λ r. ⌜ Reads (now (file .entry)) r ⌝ }
 {
     let o = outline_of(file);
+    let mut ws: Words = [0; TABLE_WORDS];
     if o.question != 0 {
         return Outcome {
             question: o.question,
-            table: no_table(),
+            table: ws,
         };
     }
     let h = o.shape;
     let n = o.names;
-    let x = read_steps(file, &n.start, &n.size, h);
-    let m = read_methods(file, &n.start, &n.size, h);
     let e = read_ends(file, &n.start, &n.size, h);
-    let q = question_seven(x.ok, m.ok, e.ok);
+    put_front(h, e, &mut ws);
+    let a = put_steps(file, &n.start, &n.size, h, &mut ws, STEPS_AT);
+    let b = put_methods(file, &n.start, &n.size, h, &mut ws, METHODS_AT);
+    put_names(&n.start, &n.size, h.facts + h.steps + h.jobs, &mut ws);
+    let q = question_seven(a, b, e.ok);
     if q != 0 {
         return Outcome {
             question: q,
-            table: no_table(),
+            table: [0; TABLE_WORDS],
         };
     }
     Outcome {
         question: 0,
-        table: table_of(h, n, x, m, e),
+        table: ws,
     }
 }
 
-// Element i, or 0 past the last: so that no number asked for is out of range.
-fn word_at(words: &[u64], i: usize) -> u64
-    ensures { λ r. ⌜ r ≡ getD (now (words .entry)) i 0 ⌝ }
+// The look-ups ---------------------------------------------------------------------------------------------------------------
+// Word i, or 0 past the last: so that no slice is too short.
+fn word(ws: &[u64], i: usize) -> u64
+    ensures { λ r. ⌜ r ≡ getD (now (ws .entry)) i 0 ⌝ }
 {
-    if i < words.len() { words[i] } else { 0 }
+    if i < ws.len() { ws[i] } else { 0 }
 }
 
-fn byte_at(bytes: &[u8], i: usize) -> u8
-    ensures { λ r. ⌜ r ≡ getD (now (bytes .entry)) i 0 ⌝ }
+// The count in word i, which is at most so much.
+fn count(ws: &[u64], i: usize, most: usize) -> usize
+    ensures { λ r. ⌜ r ≡ min (getD (now (ws .entry)) i 0) most ⌝ }
 {
-    if i < bytes.len() { bytes[i] } else { 0 }
+    let n = word(ws, i) as usize;
+    if n < most { n } else { most }
 }
 
-fn place_at(places: &[usize], i: usize) -> usize
-    ensures { λ r. ⌜ r ≡ getD (now (places .entry)) i 0 ⌝ }
+// The words of a set from place p on.
+fn set_at(ws: &[u64], p: usize) -> FactSet
+    requires { ⌜ p ≤ tableWords ⌝ }
+    ensures { λ r. ⌜ r ≡ wordsAt (now (ws .entry)) p factWords ⌝ }
 {
-    if i < places.len() { places[i] } else { 0 }
-}
-
-// Word i of the first n as a set, and byte i of the first n: the empty set and 0 from n on.
-fn set_below(a: &[u64], n: u8, i: usize) -> FactSet
-    ensures { λ r. ⌜ r ≡ cond (ltb i n) (getD (now (a .entry)) i 0) 0 ∷ [] ⌝ }
-{
-    if i < n as usize {
-        let w = word_at(a, i);
-        return [w; 1];
+    let mut w: FactSet = [0; FACT_WORDS];
+    let mut i: usize = 0;
+    while i < FACT_WORDS {
+        w[i] = word(ws, p + i);
+        i += 1;
     }
-    [0; 1]
+    w
 }
 
-fn byte_below(a: &[u8], n: u8, i: usize) -> usize
-    ensures { λ r. ⌜ (r ≡ cond (ltb i n) (getD (now (a .entry)) i 0) 0) × (r < 256) ⌝ }
+// How many facts, steps, jobs and methods there are.
+pub fn facts(ws: &[u64]) -> usize
+    ensures { λ r. ⌜ r ≡ (tableIn (now (ws .entry))) .facts ⌝ }
 {
-    if i < n as usize {
-        return byte_at(a, i) as usize;
+    count(ws, 0, MOST_FACTS)
+}
+
+pub fn steps(ws: &[u64]) -> usize
+    ensures { λ r. ⌜ r ≡ length ((tableIn (now (ws .entry))) .steps) ⌝ }
+{
+    count(ws, 1, MOST_STEPS)
+}
+
+pub fn jobs(ws: &[u64]) -> usize
+    ensures { λ r. ⌜ r ≡ (tableIn (now (ws .entry))) .jobs ⌝ }
+{
+    count(ws, 2, MOST_JOBS)
+}
+
+pub fn methods(ws: &[u64]) -> usize
+    ensures { λ r. ⌜ r ≡ length ((tableIn (now (ws .entry))) .methods) ⌝ }
+{
+    count(ws, 3, MOST_METHODS)
+}
+
+// The root job and the depth.
+pub fn root(ws: &[u64]) -> usize
+    ensures { λ r. ⌜ r ≡ (tableIn (now (ws .entry))) .root ⌝ }
+{
+    word(ws, 4) as usize
+}
+
+pub fn depth(ws: &[u64]) -> usize
+    ensures { λ r. ⌜ r ≡ (tableIn (now (ws .entry))) .depth ⌝ }
+{
+    word(ws, 5) as usize
+}
+
+// The facts true at the start.
+pub fn start(ws: &[u64]) -> FactSet
+    ensures { λ r. ⌜ members r ≡ (tableIn (now (ws .entry))) .start ⌝ }
+{
+    set_at(ws, START_AT)
+}
+
+// Set k of step s: what it needs, what it sets, what it clears. The empty set where there is no such step.
+fn step_set(ws: &[u64], s: usize, k: usize) -> FactSet
+    requires { ⌜ k < 3 ⌝ }
+    ensures { λ r. ⌜ r ≡ stepSet (now (ws .entry)) s k ⌝ }
+{
+    if s < count(ws, 1, MOST_STEPS) {
+        return set_at(ws, STEPS_AT + STEP_WORDS * s + FACT_WORDS * k);
+    }
+    [0; FACT_WORDS]
+}
+
+// The facts that step s needs, sets and clears; none where there is no such step.
+pub fn needs(ws: &[u64], s: usize) -> FactSet
+    ensures { λ r. ⌜ members r ≡ (stepOf (tableIn (now (ws .entry))) s) .needs ⌝ }
+{
+    step_set(ws, s, 0)
+}
+
+pub fn sets(ws: &[u64], s: usize) -> FactSet
+    ensures { λ r. ⌜ members r ≡ (stepOf (tableIn (now (ws .entry))) s) .sets ⌝ }
+{
+    step_set(ws, s, 1)
+}
+
+pub fn clears(ws: &[u64], s: usize) -> FactSet
+    ensures { λ r. ⌜ members r ≡ (stepOf (tableIn (now (ws .entry))) s) .clears ⌝ }
+{
+    step_set(ws, s, 2)
+}
+
+// Word k of method m, the last of its words being that of its body's last place; 0 where there is no such method.
+fn method_word(ws: &[u64], m: usize, k: usize) -> u64
+    requires { ⌜ k ≤ tableWords ⌝ }
+    ensures { λ r. ⌜ r ≡ methodWord (now (ws .entry)) m k ⌝ }
+{
+    if m < count(ws, 3, MOST_METHODS) {
+        return word(ws, METHODS_AT + METHOD_WORDS * m + k);
     }
     0
 }
 
-// Byte j of the eight that method m of n has. A body has fewer places than a byte has values, so no place asked for in earnest is
-// past 256, and below that nothing wraps.
-fn body_byte(a: &[u8], n: u8, m: usize, j: usize) -> u8
-    ensures { λ r. ⌜ r ≡ cond (ltb m n && ltb j 256) (getD (now (a .entry)) (m * 8 + j) 0) 0 ⌝ }
+// The job of method m, and how many tasks its body has; 0 where there is no such method.
+pub fn job_of(ws: &[u64], m: usize) -> usize
+    ensures { λ r. ⌜ r ≡ jobOf (tableIn (now (ws .entry))) m ⌝ }
 {
-    if m >= n as usize {
-        return 0;
+    method_word(ws, m, 0) as usize
+}
+
+pub fn body_size(ws: &[u64], m: usize) -> usize
+    ensures { λ r. ⌜ r ≡ length (bodyOf (tableIn (now (ws .entry))) m) ⌝ }
+{
+    let n = method_word(ws, m, 1) as usize;
+    if n < MOST_IN_BODY { n } else { MOST_IN_BODY }
+}
+
+// A task of a body: a step or a job by its number, or nothing where the body has no such place.
+pub enum Task {
+    Step(usize),
+    Job(usize),
+    Nothing,
+}
+
+// Task k of so many steps and the jobs together.
+fn task_at(steps: usize, k: usize) -> Task
+    ensures { λ r. ⌜ taskFrom r ≡ some (taskAt steps k) ⌝ }
+{
+    if k < steps {
+        return Task::Step(k);
     }
-    if j >= 256 {
-        return 0;
+    Task::Job(k - steps)
+}
+
+// A task of a method's body, by its place there.
+pub fn body_task(ws: &[u64], m: usize, j: usize) -> Task
+    ensures { λ r. ⌜ taskFrom r ≡ getElem? (bodyOf (tableIn (now (ws .entry))) m) j ⌝ }
+{
+    if j >= body_size(ws, m) {
+        return Task::Nothing;
     }
-    byte_at(a, m * 8 + j)
+    task_at(count(ws, 1, MOST_STEPS), method_word(ws, m, 2 + j) as usize)
 }
 
 // The part of s from the place start on, with so many bytes, as far as s has them.
@@ -210,176 +295,35 @@ fn part<'a>(s: &'a [u8], start: usize, size: usize) -> &'a [u8]
     &s[start..e]
 }
 
-// Name i of a kind that has n names, which stand after a + b names of other kinds: the part of the file where it was declared.
-fn name_at<'a, 'b>(
-    file: &'a [u8],
-    starts: &'b [usize],
-    lengths: &'b [usize],
-    a: u8,
-    b: u8,
-    n: u8,
-    i: usize,
-) -> &'a [u8]
-    ensures { λ r. ⌜ now r ≡ bytesAt (now (file .entry)) (cond (ltb i n) (partWith (now (starts .entry)) (now (lengths .entry)) (a + b + i)) noPart) ⌝ }
+// Name i of a kind that has n names, which stand after k names of other kinds: the part of the file where it was declared.
+fn name_at<'a, 'b>(file: &'a [u8], ws: &'b [u64], k: usize, n: usize, i: usize) -> &'a [u8]
+    requires { ⌜ k + n ≤ mostNames ⌝ }
+    ensures { λ r. ⌜ now r ≡ bytesAt (now (file .entry)) (cond (ltb i n) (partAt (now (ws .entry)) (k + i)) noPart) ⌝ }
 {
-    if i >= n as usize {
+    if i >= n {
         return part(file, 0, 0);
     }
-    let j = a as usize + b as usize + i;
-    part(file, place_at(starts, j), place_at(lengths, j))
+    let p = PARTS_AT + 2 * (k + i);
+    part(file, word(ws, p) as usize, word(ws, p + 1) as usize)
 }
 
-// A task of a body: a step or a job by its number, or nothing where the body has no such place.
-pub enum Task {
-    Step(usize),
-    Job(usize),
-    Nothing,
-}
-
-// Task k of the steps and the jobs together.
-fn task_at(steps: u8, k: u8) -> Task
-    ensures { λ r. ⌜ taskFrom r ≡ some (taskAt steps k) ⌝ }
+// The names of fact, step and job i: the part of the table's file where each was declared; empty where there is none.
+pub fn fact_name<'a, 'b>(file: &'a [u8], ws: &'b [u64], i: usize) -> &'a [u8]
+    ensures { λ r. ⌜ now r ≡ bytesAt (now (file .entry)) (getD ((namePartsIn (now (ws .entry))) .facts) i noPart) ⌝ }
 {
-    if k < steps {
-        return Task::Step(k as usize);
-    }
-    Task::Job((k - steps) as usize)
+    name_at(file, ws, 0, count(ws, 0, MOST_FACTS), i)
 }
 
-// The task at a place of method's body, which has n tasks; nothing where the body has no such place.
-fn task_in(bodies: &[u8], steps: u8, methods: u8, n: usize, method: usize, place: usize) -> Task
-    ensures { λ r. ⌜ taskFrom r ≡ taskWith (now (bodies .entry)) steps methods n method place ⌝ }
+pub fn step_name<'a, 'b>(file: &'a [u8], ws: &'b [u64], i: usize) -> &'a [u8]
+    ensures { λ r. ⌜ now r ≡ bytesAt (now (file .entry)) (getD ((namePartsIn (now (ws .entry))) .steps) i noPart) ⌝ }
 {
-    if place >= n {
-        return Task::Nothing;
-    }
-    task_at(steps, body_byte(bodies, methods, method, place))
+    let f = count(ws, 0, MOST_FACTS);
+    name_at(file, ws, f, count(ws, 1, MOST_STEPS), i)
 }
 
-impl Table {
-    // How many facts, steps, jobs and methods there are.
-    pub fn facts(self) -> usize
-        ensures { λ r. ⌜ r ≡ (tableFrom self) .facts ⌝ }
-    {
-        self.facts as usize
-    }
-
-    pub fn steps(self) -> usize
-        ensures { λ r. ⌜ r ≡ length ((tableFrom self) .steps) ⌝ }
-    {
-        self.steps as usize
-    }
-
-    pub fn jobs(self) -> usize
-        ensures { λ r. ⌜ r ≡ (tableFrom self) .jobs ⌝ }
-    {
-        self.jobs as usize
-    }
-
-    pub fn methods(self) -> usize
-        ensures { λ r. ⌜ r ≡ length ((tableFrom self) .methods) ⌝ }
-    {
-        self.methods as usize
-    }
-
-    // The root job and the depth.
-    pub fn root(self) -> usize
-        ensures { λ r. ⌜ r ≡ (tableFrom self) .root ⌝ }
-    {
-        self.root
-    }
-
-    pub fn depth(self) -> usize
-        ensures { λ r. ⌜ r ≡ (tableFrom self) .depth ⌝ }
-    {
-        self.depth
-    }
-
-    // The facts true at the start.
-    pub fn start(self) -> FactSet
-        ensures { λ r. ⌜ members r ≡ (tableFrom self) .start ⌝ }
-    {
-        self.start
-    }
-
-    // The facts that step i needs, sets and clears; none where there is no such step.
-    pub fn needs(self, i: usize) -> FactSet
-        ensures { λ r. ⌜ members r ≡ (stepOf (tableFrom self) i) .needs ⌝ }
-    {
-        set_below(&self.needs, self.steps, i)
-    }
-
-    pub fn sets(self, i: usize) -> FactSet
-        ensures { λ r. ⌜ members r ≡ (stepOf (tableFrom self) i) .sets ⌝ }
-    {
-        set_below(&self.sets, self.steps, i)
-    }
-
-    pub fn clears(self, i: usize) -> FactSet
-        ensures { λ r. ⌜ members r ≡ (stepOf (tableFrom self) i) .clears ⌝ }
-    {
-        set_below(&self.clears, self.steps, i)
-    }
-
-    // The job of method m, and how many tasks its body has; 0 where there is no such method.
-    pub fn job_of(self, m: usize) -> usize
-        ensures { λ r. ⌜ r ≡ jobOf (tableFrom self) m ⌝ }
-    {
-        byte_below(&self.owners, self.methods, m)
-    }
-
-    pub fn body_size(self, m: usize) -> usize
-        ensures { λ r. ⌜ r ≡ length (bodyOf (tableFrom self) m) ⌝ }
-    {
-        byte_below(&self.sizes, self.methods, m)
-    }
-
-    // A task of a method's body, by its place there.
-    pub fn task(self, method: usize, place: usize) -> Task
-        ensures { λ r. ⌜ taskFrom r ≡ getElem? (bodyOf (tableFrom self) method) place ⌝ }
-    {
-        let n = byte_below(&self.sizes, self.methods, method);
-        task_in(&self.bodies, self.steps, self.methods, n, method, place)
-    }
-
-    // All places of a method's body at once.
-    pub fn body(self, method: usize) -> [Task; 8]
-        ensures { λ r. ⌜ map taskFrom r ≡ map (getElem? (bodyOf (tableFrom self) method)) (upTo 8) ⌝ }
-    {
-        let s = self.steps;
-        let k = self.methods;
-        let n = byte_below(&self.sizes, k, method);
-        [
-            task_in(&self.bodies, s, k, n, method, 0),
-            task_in(&self.bodies, s, k, n, method, 1),
-            task_in(&self.bodies, s, k, n, method, 2),
-            task_in(&self.bodies, s, k, n, method, 3),
-            task_in(&self.bodies, s, k, n, method, 4),
-            task_in(&self.bodies, s, k, n, method, 5),
-            task_in(&self.bodies, s, k, n, method, 6),
-            task_in(&self.bodies, s, k, n, method, 7),
-        ]
-    }
-
-    // The names of fact, step and job i: the part of the table's file where each was declared; empty where there is none.
-    pub fn fact_name<'a>(self, file: &'a [u8], i: usize) -> &'a [u8]
-        ensures { λ r. ⌜ now r ≡ bytesAt (now (file .entry)) (getD ((namePartsFrom self) .facts) i noPart) ⌝ }
-    {
-        name_at(file, &self.starts, &self.lengths, 0, 0, self.facts, i)
-    }
-
-    pub fn step_name<'a>(self, file: &'a [u8], i: usize) -> &'a [u8]
-        ensures { λ r. ⌜ now r ≡ bytesAt (now (file .entry)) (getD ((namePartsFrom self) .steps) i noPart) ⌝ }
-    {
-        let f = self.facts;
-        name_at(file, &self.starts, &self.lengths, f, 0, self.steps, i)
-    }
-
-    pub fn job_name<'a>(self, file: &'a [u8], i: usize) -> &'a [u8]
-        ensures { λ r. ⌜ now r ≡ bytesAt (now (file .entry)) (getD ((namePartsFrom self) .jobs) i noPart) ⌝ }
-    {
-        let f = self.facts;
-        let s = self.steps;
-        name_at(file, &self.starts, &self.lengths, f, s, self.jobs, i)
-    }
+pub fn job_name<'a, 'b>(file: &'a [u8], ws: &'b [u64], i: usize) -> &'a [u8]
+    ensures { λ r. ⌜ now r ≡ bytesAt (now (file .entry)) (getD ((namePartsIn (now (ws .entry))) .jobs) i noPart) ⌝ }
+{
+    let k = count(ws, 0, MOST_FACTS) + count(ws, 1, MOST_STEPS);
+    name_at(file, ws, k, count(ws, 2, MOST_JOBS), i)
 }

@@ -1,4 +1,4 @@
-// The lines of a formula, written from a given line on, as many as fit. `ws` is the table's sheet and `ix` its index.
+// The lines of a formula, written from a given line on, as many as fit. `ws` is the table and `ix` its index.
 ghost use mathlib.Core.Path.{_≡_};
 ghost use Prim.Native.Nat.{_+_, _≤_, _<_};
 ghost use lib.ListN.{length};
@@ -6,7 +6,7 @@ ghost use Rattle.lists.specs.Written.{Wrote};
 ghost use Rattle.planning.specs.Clause.{formula};
 ghost use Rattle.planning.specs.Text.{headerLine};
 ghost use Rattle.planning.specs.Variable.{variables as variablesOf};
-ghost use Rattle.sheet.specs.Sheet.{tableIn};
+ghost use Rattle.table.specs.Layout.{tableIn};
 ghost use Rattle.shape.specs.Shape.{Indexed};
 ghost use Rattle.cursor.specs.Cursor.{Holds, In};
 ghost use Rattle.text.specs.Lines.{lineAt, linesFrom, ifFits, Put, PutText};

@@ -13,7 +13,7 @@ ghost use Rattle.planning.specs.Place.{methodsOf, longest as longestBody, oneIf
 ghost use Rattle.planning.specs.Record.{records};
 ghost use Rattle.planning.specs.Variable.{nodeVars};
 ghost use Rattle.table.specs.Layout.{taskFrom};
-ghost use Rattle.sheet.specs.Sheet.{tableIn};
+ghost use Rattle.table.specs.Layout.{tableIn};
 ghost use Rattle.tree.specs.Words.{treeWords};
 ghost use Rattle.tree.specs.Visit.{membersIn, labelIn, someIn, Inside, Known, withTask, slotsOf, Small, VisitedPart, VisitedParts};
 ghost use Rattle.tree.specs.Visit.{VisitedTree, Counted, nodeTotal, Put};
@@ -79,8 +79,8 @@ fn with_method(ws: &[u64], jobs: u64, i: usize, m: usize, l: Label) -> Label
     ensures { λ r. ⌜ r ≡ cond (contains (jobs ∷ []) (jobOf (tableIn (now (ws .entry))) m))
         (withTask l (getElem? (bodyOf (tableIn (now (ws .entry))) m) i)) l ⌝ }
 {
-    if holds(jobs, sheet::job_of(ws, m)) {
-        return with_task(l, sheet::task(ws, m, i));
+    if holds(jobs, table::job_of(ws, m)) {
+        return with_task(l, table::body_task(ws, m, i));
     }
     l
 }
@@ -102,7 +102,7 @@ fn child_label(ws: &[u64], l: Label, i: usize) -> Label
         jobs: 0,
     };
     let mut m: usize = 0;
-    while m < sheet::methods(ws) {
+    while m < table::methods(ws) {
         child = with_method(ws, l.jobs, i, m, child);
         m += 1;
     }
@@ -114,8 +114,8 @@ fn longer(ws: &[u64], jobs: u64, m: usize, n: usize) -> usize
     requires { ⌜ m < 128 ⌝ }
     ensures { λ r. ⌜ r ≡ cond (contains (jobs ∷ []) (jobOf (tableIn (now (ws .entry))) m)) (max n (length (bodyOf (tableIn (now (ws .entry))) m))) n ⌝ }
 {
-    if holds(jobs, sheet::job_of(ws, m)) {
-        let k = sheet::body_size(ws, m);
+    if holds(jobs, table::job_of(ws, m)) {
+        let k = table::body_size(ws, m);
         if n < k {
             return k;
         }
@@ -129,7 +129,7 @@ fn longest(ws: &[u64], jobs: u64) -> usize
 {
     let mut n: usize = 0;
     let mut m: usize = 0;
-    while m < sheet::methods(ws) {
+    while m < table::methods(ws) {
         n = longer(ws, jobs, m, n);
         m += 1;
     }
@@ -162,7 +162,7 @@ fn one_more(ws: &[u64], jobs: u64, m: usize, n: usize) -> usize
     requires { ⌜ (m < 128) × (n ≤ m) ⌝ }
     ensures { λ r. ⌜ r ≡ cond (contains (jobs ∷ []) (jobOf (tableIn (now (ws .entry))) m)) (n + 1) n ⌝ }
 {
-    if holds(jobs, sheet::job_of(ws, m)) {
+    if holds(jobs, table::job_of(ws, m)) {
         return n + 1;
     }
     n
@@ -174,7 +174,7 @@ pub fn count_methods(ws: &[u64], jobs: u64) -> usize
 {
     let mut n: usize = 0;
     let mut m: usize = 0;
-    while m < sheet::methods(ws) {
+    while m < table::methods(ws) {
         n = one_more(ws, jobs, m, n);
         m += 1;
     }
@@ -261,7 +261,7 @@ fn visit_node(ws: &[u64], out: &mut [u64], c: Count, left: usize, parent: usize,
             slots: c.slots,
         };
     }
-    let depth = sheet::depth(ws) - left;
+    let depth = table::depth(ws) - left;
     if !is_inner(left, l.jobs) {
         put_record(out, c.nodes, depth, parent, 0, l.steps, l.jobs);
         return with_slot(c, l);
@@ -308,9 +308,9 @@ fn visit(ws: &[u64], out: &mut [u64]) -> Count
     };
     let root = Label {
         steps: 0,
-        jobs: with(0, sheet::root(ws)),
+        jobs: with(0, table::root(ws)),
     };
-    visit_node(ws, out, none, sheet::depth(ws), 0, root)
+    visit_node(ws, out, none, table::depth(ws), 0, root)
 }
 
 // How many nodes, variables of nodes and slots the table's tree has; nothing is written.

@@ -3,7 +3,7 @@
 use Rattle.clause.proofs.literals.Tie as tie
 use borrow.Author.Needs.{needs}
 use native.Mathlib.Omega.{arith}
-use Rattle.sheet.specs.Sheet.{tableIn}
+use Rattle.table.specs.Layout.{tableIn}
 use Rattle.clause.proofs.Codes.{wrote-lits}
 use Rattle.clause.proofs.Facts.{facts-most}
 use Rattle.clause.proofs.Cases.{root-there, there, root-lits, start-lits, start-fact, rule-four}

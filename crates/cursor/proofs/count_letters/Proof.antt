@@ -2,7 +2,7 @@ use borrow.Author.Needs.{needs}
 use Rattle.cursor.proofs.count_letters.Statement.{statement}
 use Rattle.cursor.proofs.count_letters.Tie as tie
 use native.Mathlib.Omega.{arith}
-use Rattle.sheet.specs.Sheet.{tableIn}
+use Rattle.table.specs.Layout.{tableIn}
 use Rattle.shape.specs.Shape.{node}
 use Rattle.cursor.proofs.Counts.{product-most, letters-count}
 

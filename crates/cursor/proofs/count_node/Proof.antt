@@ -1,7 +1,7 @@
 use borrow.Author.Needs.{needs}
 use Rattle.cursor.proofs.count_node.Statement.{statement}
 use Rattle.cursor.proofs.count_node.Tie as tie
-use Rattle.sheet.specs.Sheet.{tableIn}
+use Rattle.table.specs.Layout.{tableIn}
 use Rattle.cursor.proofs.Counts.{node-of, slot-of, letters-at, slot-at, facts-at, root-at}
 
 count-letters-requires : tie.Need-count-letters-requires

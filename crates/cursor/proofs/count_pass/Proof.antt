@@ -3,7 +3,7 @@ use Rattle.cursor.proofs.count_pass.Statement.{statement}
 use Rattle.cursor.proofs.count_pass.Tie as tie
 use native.Mathlib.Omega.{arith}
 use mathlib.Core.Path.{sym, _∙_}
-use Rattle.sheet.specs.Sheet.{tableIn}
+use Rattle.table.specs.Layout.{tableIn}
 use Rattle.shape.specs.Shape.{node}
 use Rattle.cursor.proofs.Counts.{pass-none, passed}
 

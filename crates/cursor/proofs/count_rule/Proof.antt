@@ -3,7 +3,7 @@ use Rattle.cursor.proofs.count_rule.Statement.{statement}
 use Rattle.cursor.proofs.count_rule.Tie as tie
 use native.Mathlib.Omega.{arith}
 use Rattle.cursor.proofs.Counts.{Summing, summing-none, summing-more, summing-all}
-use Rattle.sheet.specs.Sheet.{tableIn}
+use Rattle.table.specs.Layout.{tableIn}
 use Rattle.index.specs.Index.{source}
 use mathlib.Core.Path.{ap, _∙_}
 use Prim.Native.Nat.{_-_}

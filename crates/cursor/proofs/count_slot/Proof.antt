@@ -3,7 +3,7 @@ use Rattle.cursor.proofs.count_slot.Statement.{statement}
 use Rattle.cursor.proofs.count_slot.Tie as tie
 use native.Mathlib.Omega.{arith}
 use Prim.Native.Nat.{_-_}
-use Rattle.sheet.specs.Sheet.{tableIn}
+use Rattle.table.specs.Layout.{tableIn}
 use lib.ListN.{getD}
 use Rattle.places.specs.ClausePlace.{slotAt}
 use Rattle.places.specs.Total.{effectCount}

@@ -4,7 +4,7 @@ use Rattle.cursor.proofs.count_widths.Tie as tie
 use native.Mathlib.Omega.{arith}
 use mathlib.Core.Path.{ap, _∙_}
 use Prim.Native.Nat.{_-_}
-use Rattle.sheet.specs.Sheet.{tableIn}
+use Rattle.table.specs.Layout.{tableIn}
 use Rattle.places.specs.Total.{sumTo}
 use Rattle.places.specs.ClausePlace.{childAt, width}
 use Rattle.shape.specs.Shape.{node}

@@ -1,7 +1,7 @@
 use Rattle.cursor.proofs.seek_node.Statement.{statement}
 use Rattle.cursor.proofs.seek_node.Tie as tie
 use native.Mathlib.Omega.{arith}
-use Rattle.sheet.specs.Sheet.{tableIn}
+use Rattle.table.specs.Layout.{tableIn}
 use Rattle.cursor.specs.Cursor.{rankOf}
 use Rattle.cursor.proofs.Moves.{begins, stands-of}
 use Rattle.cursor.proofs.Counts.{SoughtNode, sought-start, sought-row, sought-past-node}

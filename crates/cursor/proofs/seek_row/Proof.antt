@@ -1,6 +1,6 @@
 use Rattle.cursor.proofs.seek_row.Statement.{statement}
 use Rattle.cursor.proofs.seek_row.Tie as tie
-use Rattle.sheet.specs.Sheet.{tableIn}
+use Rattle.table.specs.Layout.{tableIn}
 use Rattle.cursor.specs.Cursor.{SoughtRow, rankOf}
 use Rattle.cursor.proofs.Moves.{stands-of}
 use Rattle.cursor.proofs.Counts.{sought-past-row, found-here, found-end}

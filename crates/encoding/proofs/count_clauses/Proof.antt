@@ -1,7 +1,7 @@
 use borrow.Author.Needs.{needs}
 use Rattle.encoding.proofs.count_clauses.Statement.{statement}
 use Rattle.encoding.proofs.count_clauses.Tie as tie
-use Rattle.sheet.specs.Sheet.{tableIn}
+use Rattle.table.specs.Layout.{tableIn}
 use Rattle.questions.proofs.Compared.{known-of, tree-front, index-front}
 use Rattle.encoding.proofs.Counted.{clauses-are}
 use lib.Dec.{lit≤}

@@ -3,7 +3,7 @@
 use borrow.Author.Needs.{needs}
 use Rattle.encoding.proofs.write_indexed.Statement.{statement}
 use Rattle.encoding.proofs.write_indexed.Tie as tie
-use Rattle.sheet.specs.Sheet.{tableIn}
+use Rattle.table.specs.Layout.{tableIn}
 use Rattle.encoding.proofs.Counted.{clauses-are}
 use Rattle.encoding.proofs.Answers.{past-last-line, lined}
 

@@ -5,7 +5,7 @@ use Rattle.encoding.proofs.write_own.Statement.{statement}
 use Rattle.encoding.proofs.write_own.Tie as tie
 use lib.Dec.{lit≤}
 use Rattle.lists.proofs.Written.{wrote-count, wrote-room}
-use Rattle.sheet.specs.Sheet.{tableIn}
+use Rattle.table.specs.Layout.{tableIn}
 use Rattle.questions.proofs.Compared.{known-of, tree-front, index-front}
 
 slice-aggregate-build : tie.Need-slice-aggregate-build

@@ -5,7 +5,7 @@ use borrow.Author.Needs.{needs}
 use Prim.Native.Nat.{_-_, _/_}
 use native.Mathlib.Omega.{arith}
 use lib.ListN.{length}
-use Rattle.sheet.specs.Sheet.{tableIn}
+use Rattle.table.specs.Layout.{tableIn}
 use Rattle.places.specs.ClausePlace.{noNode}
 use Rattle.index.specs.Index.{meanings, source}
 use Rattle.indexing.proofs.Nodes.{at-node, node-count}

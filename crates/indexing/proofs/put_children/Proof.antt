@@ -7,7 +7,7 @@ use Prim.Native.Nat.{_-_}
 use native.Mathlib.Omega.{arith}
 use lib.Dec.{eqb}
 use lib.ListN.{length}
-use Rattle.sheet.specs.Sheet.{tableIn}
+use Rattle.table.specs.Layout.{tableIn}
 use Rattle.index.specs.Index.{source}
 use Rattle.indexing.proofs.Nodes.{few, children-word}
 use Rattle.indexing.proofs.Children.{Found, found-none, found-there, found-room, found-more, found-rest, found-all, eight}

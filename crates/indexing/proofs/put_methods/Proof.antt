@@ -5,7 +5,7 @@ use borrow.Author.Needs.{needs}
 use Prim.Native.Nat.{_-_}
 use native.Mathlib.Omega.{arith}
 use lib.ListN.{length}
-use Rattle.sheet.specs.Sheet.{tableIn}
+use Rattle.table.specs.Layout.{tableIn}
 use Rattle.indexing.proofs.Loops.{Picked, picked-none, picked-room, picked-more, picked-all, isMethod, method-test, below}
 use Rattle.indexing.proofs.put_methods.Statement.{statement}
 
@@ -24,7 +24,7 @@ methods-requires : tie.Need-methods-requires Inv-loop μ-loop
 methods-requires c κs = search needs
 
 job-of-requires : tie.Need-job-of-requires Inv-loop μ-loop
-job-of-requires c κs = omega (arith, c .before .if1 .taken, c .before .before .methods .ensures, c .before .before .before .before .before .before .pre .0 .limits .methods)
+job-of-requires c κs = search needs
 
 holds-requires : tie.Need-holds-requires Inv-loop μ-loop
 holds-requires c κs = search needs

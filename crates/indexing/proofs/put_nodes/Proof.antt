@@ -5,7 +5,7 @@ use borrow.Author.Needs.{needs}
 use Prim.Native.Nat.{_-_, _/_}
 use native.Mathlib.Omega.{arith}
 use lib.ListN.{length}
-use Rattle.sheet.specs.Sheet.{tableIn}
+use Rattle.table.specs.Layout.{tableIn}
 use Rattle.indexing.proofs.Nodes.{at-node, node-count}
 use Rattle.indexing.proofs.Loops.{each-all, Numbered, numbered-none, numbered-first, numbered-room, numbered-fits, numbered-more}
 use Rattle.indexing.proofs.put_nodes.Statement.{statement}

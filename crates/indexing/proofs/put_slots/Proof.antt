@@ -4,7 +4,7 @@ use Rattle.indexing.proofs.put_slots.Tie as tie
 use borrow.Author.Needs.{needs}
 use Prim.Native.Nat.{_-_, _/_}
 use lib.ListN.{length}
-use Rattle.sheet.specs.Sheet.{tableIn}
+use Rattle.table.specs.Layout.{tableIn}
 use Rattle.index.specs.Index.{source}
 use Rattle.indexing.proofs.Nodes.{at-node}
 use Rattle.indexing.proofs.Loops.{Picked, picked-room, picked-more, isSlot, slot-test, slots-none, slots-all}

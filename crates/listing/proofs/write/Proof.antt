@@ -3,15 +3,15 @@
 use Rattle.listing.proofs.write.Tie as tie
 use borrow.Author.Needs.{needs}
 use Prim.Native.Nat.{_-_}
-use Rattle.sheet.specs.Sheet.{tableIn}
+use Rattle.table.specs.Layout.{tableIn}
 use Rattle.listing.proofs.Loops.{Went, went-none, went-ready, went-more, went-all}
 use Rattle.listing.proofs.write.Statement.{statement}
 
 abbrev Inv-loop : tie.InvT-loop
-Inv-loop t file ws ix tree values out₀ k p₀ n₀ out p n = Went t file (tableIn ws) values out₀ out (p .at) (p .steps) n
+Inv-loop file ws ix tree values out₀ k p₀ n₀ out p n = Went ws file (tableIn ws) values out₀ out (p .at) (p .steps) n
 
 abbrev μ-loop : tie.MeasureT-loop
-μ-loop t file ws ix tree values out₀ k p₀ n₀ out p n = k - n
+μ-loop file ws ix tree values out₀ k p₀ n₀ out p n = k - n
 
 nodes-in-requires : tie.Need-nodes-in-requires Inv-loop μ-loop
 nodes-in-requires c κs = search needs
@@ -41,7 +41,7 @@ loop-again c =
     let w = v .before in
     let y = w .before in
     let s = y .before .before .before .before .before .before .before in
-    went-more (s .pre .0) (w .loop .inv) (y .nodes-in .ensures .0) (v .loop-test .taken) (u .put-node .kept .1 .1 .1 .1 .1 .1 .0) (u .put-node .ensures)
+    went-more (s .pre .0) (w .loop .inv) (y .nodes-in .ensures .0) (v .loop-test .taken) (u .put-node .kept .1 .1 .1 .1 .1 .0) (u .put-node .ensures)
 
 same-length : tie.Need-same-length Inv-loop μ-loop
 same-length c = search needs

@@ -7,7 +7,7 @@ use mathlib.Core.Path.{_≡_, refl, sym, _∙_}
 use lib.ListN.{length}
 use Rattle.lists.proofs.Bool.{said-no, said-yes}
 use Rattle.planning.specs.Model.{value, truthsIn}
-use Rattle.sheet.specs.Sheet.{tableIn}
+use Rattle.table.specs.Layout.{tableIn}
 use Rattle.cursor.specs.Cursor.{rankOf}
 use Rattle.cursor.proofs.Moves.{stands-of}
 use Rattle.model.proofs.Clauses.{Checking, checking-none, checking-off, checking-row, checking-end}

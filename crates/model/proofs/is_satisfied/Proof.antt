@@ -7,7 +7,7 @@ use mathlib.Core.Path.{_∙_}
 use native.Mathlib.Omega.{arith}
 use Rattle.lists.proofs.Written.{wrote-count, wrote-room}
 use Rattle.planning.specs.Model.{value, truthsIn}
-use Rattle.sheet.specs.Sheet.{tableIn}
+use Rattle.table.specs.Layout.{tableIn}
 use Rattle.cursor.proofs.Moves.{letter-of}
 use Rattle.model.specs.Clauses.{clauseAt}
 use Rattle.model.proofs.Clauses.{codes-true}

@@ -2,7 +2,7 @@ use borrow.Author.Needs.{needs}
 use Rattle.questions.proofs.measure_of.Statement.{statement}
 use Rattle.questions.proofs.measure_of.Tie as tie
 use native.Mathlib.Omega.{arith}
-use Rattle.sheet.specs.Sheet.{tableIn}
+use Rattle.table.specs.Layout.{tableIn}
 use Rattle.questions.proofs.Preparing.{too-many-nodes, too-many-variables, all-met, facts-room}
 
 count-all-requires : tie.Need-count-all-requires

@@ -7,7 +7,7 @@ use lib.Dec.{lit≤}
 use lib.Seq.{length-take-le}
 use Rattle.lists.proofs.Bool.{said-no, said-yes}
 use Rattle.lists.proofs.Written.{wrote-room}
-use Rattle.sheet.specs.Sheet.{tableIn}
+use Rattle.table.specs.Layout.{tableIn}
 use Rattle.questions.proofs.Compared.{known-of, tree-end, compared, own-words, lent-front, not-placed, is-placed}
 
 slice-aggregate-build : tie.Need-slice-aggregate-build

@@ -27,7 +27,11 @@ field-at-requires-2 : tie.Need-field-at-requires-2
 field-at-requires-2 c κs = (c .cut2 .ensures .low, c .cut2 .ensures .high)
 
 look-up-requires : tie.Need-look-up-requires
-look-up-requires c κs = (c .before .before .before .before .before .before .pre .indexed, c .field-at2 .ensures .order, le-trans (c .field-at2 .ensures .high) (c .before .cut2 .ensures .high))
+look-up-requires c κs =
+    let pre = c .before .before .before .before .before .before .pre in
+    let field-at2 = c .field-at2 in
+    let cut2 = c .before .cut2 in
+    (pre .indexed, field-at2 .ensures .order, le-trans (field-at2 .ensures .high) (cut2 .ensures .high))
 
 field-at-requires-3 : tie.Need-field-at-requires-3
 field-at-requires-3 c κs = (c .before .before .cut2 .ensures .low, c .before .before .cut2 .ensures .high)
@@ -36,10 +40,27 @@ both-requires : tie.Need-both-requires
 both-requires c κs = search needs
 
 digit-of-requires : tie.Need-digit-of-requires
-digit-of-requires c κs = (c .before .before .before .field-at3 .ensures .order, le-trans (c .before .before .before .field-at3 .ensures .high) (c .before .before .before .before .before .before .cut2 .ensures .high))
+digit-of-requires c κs =
+    let field-at3 = c .before .before .before .field-at3 in
+    let cut2 = c .before .before .before .before .before .before .cut2 in
+    (field-at3 .ensures .order, le-trans (field-at3 .ensures .high) (cut2 .ensures .high))
 
 returns : tie.Need-returns
-returns c = ends-means _ _ _ (start-line (c .before .before .before .before .before .before .before .before .before .before .before .before .pre) (c .before .before .before .before .before .before .before .before .before .before .cut .ensures)) (root-line (c .before .before .before .before .before .before .before .before .before .before .before .before .pre) (c .before .before .before .before .before .before .before .before .before .before .cut .ensures) (c .before .before .before .before .before .before .before .cut2 .ensures)) _ _ _ _ _ _ (field-facts (c .before .before .before .before .before .before .before .before .before .field-at .ensures) (c .before .before .before .before .before .before .before .before .fact-set .ensures)) (field-name _ (c .before .before .before .before .before .before .field-at2 .ensures) (c .before .before .before .before .before .look-up .ensures)) (among-is _ _ _ _ (field-name _ (c .before .before .before .before .before .before .field-at2 .ensures) (c .before .before .before .before .before .look-up .ensures)) (count-jobs (c .before .before .before .before .before .before .before .before .before .before .before .before .pre))) (field-digit (c .before .before .before .before .field-at3 .ensures) (c .digit-of .ensures)) (c .before .both .ensures)
+returns c =
+    let pre = c .before .before .before .before .before .before .before .before .before .before .before .before .pre in
+    let cut = c .before .before .before .before .before .before .before .before .before .before .cut in
+    let cut2 = c .before .before .before .before .before .before .before .cut2 in
+    let field-at = c .before .before .before .before .before .before .before .before .before .field-at in
+    let fact-set = c .before .before .before .before .before .before .before .before .fact-set in
+    let field-at2 = c .before .before .before .before .before .before .field-at2 in
+    let look-up = c .before .before .before .before .before .look-up in
+    let field-at3 = c .before .before .before .before .field-at3 in
+    let digit-of = c .digit-of in
+    let both = c .before .both in
+    ends-means _ _ _ (start-line (pre) (cut .ensures)) (root-line (pre) (cut .ensures) (cut2 .ensures)) _ _ _ _ _ _
+    (field-facts (field-at .ensures) (fact-set .ensures)) (field-name _ (field-at2 .ensures) (look-up .ensures))
+    (among-is _ _ _ _ (field-name _ (field-at2 .ensures) (look-up .ensures)) (count-jobs (pre)))
+    (field-digit (field-at3 .ensures) (digit-of .ensures)) (both .ensures)
 
 pub read-ends-spec : {M : Type 1} → statement M
 read-ends-spec =

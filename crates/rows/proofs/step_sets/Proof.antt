@@ -15,13 +15,19 @@ field-at-requires-2 : tie.Need-field-at-requires-2
 field-at-requires-2 c κs = (c .before .before .before .pre .1, c .before .before .before .pre .2)
 
 fact-set-requires-2 : tie.Need-fact-set-requires-2
-fact-set-requires-2 c κs = (c .before .before .before .before .pre .0, c .field-at2 .ensures .order, le-trans (c .field-at2 .ensures .high) (c .before .before .before .before .pre .2))
+fact-set-requires-2 c κs =
+    let pre = c .before .before .before .before .pre in
+    let field-at2 = c .field-at2 in
+    (pre .0, field-at2 .ensures .order, le-trans (field-at2 .ensures .high) (pre .2))
 
 field-at-requires-3 : tie.Need-field-at-requires-3
 field-at-requires-3 c κs = (c .before .before .before .before .before .pre .1, c .before .before .before .before .before .pre .2)
 
 fact-set-requires-3 : tie.Need-fact-set-requires-3
-fact-set-requires-3 c κs = (c .before .before .before .before .before .before .pre .0, c .field-at3 .ensures .order, le-trans (c .field-at3 .ensures .high) (c .before .before .before .before .before .before .pre .2))
+fact-set-requires-3 c κs =
+    let pre = c .before .before .before .before .before .before .pre in
+    let field-at3 = c .field-at3 in
+    (pre .0, field-at3 .ensures .order, le-trans (field-at3 .ensures .high) (pre .2))
 
 both-requires : tie.Need-both-requires
 both-requires c κs = search needs
@@ -30,7 +36,17 @@ both-requires-2 : tie.Need-both-requires-2
 both-requires-2 c κs = search needs
 
 returns : tie.Need-returns
-returns c = step-means _ _ _ _ _ _ _ _ _ _ (field-facts (c .before .before .before .before .before .before .before .before .before .before .field-at .ensures) (c .before .before .before .before .before .before .before .before .before .fact-set .ensures)) (field-facts (c .before .before .before .before .before .before .before .before .field-at2 .ensures) (c .before .before .before .before .before .before .before .fact-set2 .ensures)) (field-facts (c .before .before .before .before .before .before .field-at3 .ensures) (c .before .before .before .before .before .fact-set3 .ensures)) (c .before .both .ensures) (c .both2 .ensures)
+returns c =
+    let field-at = c .before .before .before .before .before .before .before .before .before .before .field-at in
+    let fact-set = c .before .before .before .before .before .before .before .before .before .fact-set in
+    let field-at2 = c .before .before .before .before .before .before .before .before .field-at2 in
+    let fact-set2 = c .before .before .before .before .before .before .before .fact-set2 in
+    let field-at3 = c .before .before .before .before .before .before .field-at3 in
+    let fact-set3 = c .before .before .before .before .before .fact-set3 in
+    let both = c .before .both in
+    let both2 = c .both2 in
+    step-means _ _ _ _ _ _ _ _ _ _ (field-facts (field-at .ensures) (fact-set .ensures)) (field-facts (field-at2 .ensures) (fact-set2 .ensures))
+    (field-facts (field-at3 .ensures) (fact-set3 .ensures)) (both .ensures) (both2 .ensures)
 
 pub step-sets-spec : {M : Type 1} → statement M
 step-sets-spec =

@@ -3,7 +3,7 @@ use Rattle.shape.proofs.effects.Statement.{statement}
 use Rattle.shape.proofs.effects.Tie as tie
 use Rattle.shape.proofs.Slots.{needs-is, sets-is, clears-is}
 use Rattle.shape.proofs.Groups.{part-three}
-use Rattle.sheet.specs.Sheet.{tableIn}
+use Rattle.table.specs.Layout.{tableIn}
 
 needs-requires : tie.Need-needs-requires
 needs-requires c κs = search needs

@@ -6,13 +6,13 @@ use Prim.Native.Nat.{ℕ}
 use lib.Dec.{ltb}
 use lib.ListN.{length}
 use Rattle.planning.specs.Table.{bodyOf}
-use Rattle.sheet.specs.Sheet.{tableIn}
+use Rattle.table.specs.Layout.{tableIn}
 
 method-requires : tie.Need-method-requires
 method-requires c κs = search needs
 
 body-size-requires : tie.Need-body-size-requires
-body-size-requires c κs = c .method .ensures .1
+body-size-requires c κs = search needs
 
 returns : tie.Need-returns
 returns c = ap (ltb (c .before .before .before .before .args .y)) (c .body-size .ensures ∙ ap (λ (m : ℕ). length (bodyOf (tableIn (c .before .before .before .before .args .ws .now)) m)) (c .before .method .ensures .0))

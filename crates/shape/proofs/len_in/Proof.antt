@@ -3,7 +3,7 @@ use Rattle.shape.proofs.len_in.Statement.{statement}
 use Rattle.shape.proofs.len_in.Tie as tie
 use Rattle.shape.proofs.Groups.{node-there, node-letter, slot-there, slot-letter, start-len, root-len}
 use mathlib.Core.Path.{_∙_}
-use Rattle.sheet.specs.Sheet.{tableIn}
+use Rattle.table.specs.Layout.{tableIn}
 
 node-len-requires : tie.Need-node-len-requires
 node-len-requires c κs = (node-there (c .before .before .before .pre .0) (c .if1 .taken), node-letter (c .before .before .before .pre .0) (c .if1 .taken), rw (c .if1 .taken) at (c .before .before .before .pre .1), rw (c .if1 .taken) at (c .before .before .before .pre .2))

@@ -2,7 +2,7 @@ use borrow.Author.Needs.{needs}
 use Rattle.shape.proofs.node_ys.Statement.{statement}
 use Rattle.shape.proofs.node_ys.Tie as tie
 use Rattle.shape.proofs.Groups.{one-row}
-use Rattle.sheet.specs.Sheet.{tableIn}
+use Rattle.table.specs.Layout.{tableIn}
 use Rattle.shape.specs.Shape.{node}
 
 children-of-requires : tie.Need-children-of-requires

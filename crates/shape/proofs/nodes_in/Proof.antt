@@ -4,7 +4,7 @@ use Rattle.shape.proofs.nodes_in.Tie as tie
 use native.Mathlib.Omega.{arith}
 use Rattle.shape.proofs.Nodes.{nodes-is, slots-is}
 use Rattle.shape.proofs.Groups.{one-node}
-use Rattle.sheet.specs.Sheet.{tableIn}
+use Rattle.table.specs.Layout.{tableIn}
 
 nodes-requires : tie.Need-nodes-requires
 nodes-requires c κs = search needs

@@ -5,7 +5,7 @@ use mathlib.Core.Path.{ap, _∙_}
 use Prim.Native.Nat.{ℕ}
 use lib.ListN.{length}
 use Rattle.places.specs.ClausePlace.{effectFacts}
-use Rattle.sheet.specs.Sheet.{tableIn}
+use Rattle.table.specs.Layout.{tableIn}
 
 slot-step-requires : tie.Need-slot-step-requires
 slot-step-requires c κs = (c .before .before .before .pre .0, rw (c .if1 .taken) at (c .before .before .before .pre .2))

@@ -1,7 +1,7 @@
 use Rattle.shape.proofs.xs_in.Statement.{statement}
 use Rattle.shape.proofs.xs_in.Tie as tie
 use Rattle.shape.proofs.Groups.{single-rule, sizes-of, node-there, node-letter, slot-there, slot-letter, known-most}
-use Rattle.sheet.specs.Sheet.{tableIn}
+use Rattle.table.specs.Layout.{tableIn}
 
 node-xs-requires : tie.Need-node-xs-requires
 node-xs-requires c κs = (node-there (c .before .before .before .pre) (c .if1 .taken), node-letter (c .before .before .before .pre) (c .if1 .taken))

@@ -1,32 +1,51 @@
-use Rattle.table.proofs.name_at.Tie as tie
 use borrow.Author.Needs.{needs}
 use Rattle.table.proofs.name_at.Statement.{statement}
+use Rattle.table.proofs.name_at.Tie as tie
+use Rattle.table.proofs.part.Reads as part-reads
+use Rattle.table.proofs.word.Reads as word-reads
+use native.Mathlib.Omega.{arith}
 use Prim.Native.Nat.{_+_}
-use Rattle.table.proofs.Access.{name-past, name-in}
+use Rattle.table.proofs.Lookup.{name-past, name-in}
 
 part-requires : tie.Need-part-requires
 part-requires c κs = search needs
 
 returns : tie.Need-returns
-returns c = let a = c .before .before .before .before .before .args in name-past _ (a .file .now) _ (a .n) (a .i) (c .before .if1 .taken) (c .part .ensures)
+returns c =
+    let a = c .before .before .before .before .args in
+    let if1 = c .before .if1 in
+    let part = c .part in
+    name-past _ (a .file .now) _ (a .n) (a .i) (if1 .taken) (part .ensures)
 
-add-j : tie.Need-add-j
-add-j c = search needs
+add-p : tie.Need-add-p
+add-p c = omega (arith, c .before .before .before .pre, c .if1 .left)
 
-add-j-2 : tie.Need-add-j-2
-add-j-2 c = search needs
+mul-p : tie.Need-mul-p
+mul-p c = omega (arith, c .before .before .before .pre, c .if1 .left)
 
-place-at-requires : tie.Need-place-at-requires
-place-at-requires c κs = search needs
+add-p-2 : tie.Need-add-p-2
+add-p-2 c = omega (arith, c .before .before .before .pre, c .if1 .left)
 
-place-at-requires-2 : tie.Need-place-at-requires-2
-place-at-requires-2 c κs = search needs
+word-requires : tie.Need-word-requires
+word-requires c κs = search needs
+
+add-word : tie.Need-add-word
+add-word c = omega (arith, c .before .before .before .before .pre, c .before .if1 .left)
+
+word-requires-2 : tie.Need-word-requires-2
+word-requires-2 c κs = search needs
 
 part-requires-2 : tie.Need-part-requires-2
 part-requires-2 c κs = search needs
 
 returns-2 : tie.Need-returns-2
-returns-2 c = let a = c .before .before .before .before .before .before .before .args in name-in (a .starts .now) (a .lengths .now) (a .file .now) _ (a .n) (a .i) (a .a + a .b + a .i) _ _ (c .before .before .before .if1 .left) (c .before .before .place-at .ensures) (c .before .place-at2 .ensures) (c .part2 .ensures)
+returns-2 c =
+    let a = c .before .before .before .before .before .before .args in
+    let if1 = c .before .before .before .if1 in
+    let word = c .before .before .word in
+    let word2 = c .before .word2 in
+    let part2 = c .part2 in
+    name-in (a .ws .now) (a .file .now) _ (a .n) (a .i) (a .k + a .i) (if1 .left) (word .ensures) (word2 .ensures) (part2 .ensures)
 
 pub name-at-spec : {M : Type 1} → statement M
 name-at-spec =
@@ -34,9 +53,11 @@ name-at-spec =
     (tie.spec
     part-requires
     returns
-    add-j
-    add-j-2
-    place-at-requires
-    place-at-requires-2
+    add-p
+    mul-p
+    add-p-2
+    word-requires
+    add-word
+    word-requires-2
     part-requires-2
     returns-2)

@@ -1,7 +1,7 @@
 use Rattle.table.proofs.part.Tie as tie
 use borrow.Author.Needs.{needs}
 use Rattle.table.proofs.part.Statement.{statement}
-use Rattle.table.proofs.Access.{part-past, part-short, part-whole}
+use Rattle.table.proofs.Lookup.{part-past, part-short, part-whole}
 
 sub-result : tie.Need-sub-result
 sub-result c = search needs

@@ -2,7 +2,7 @@ use borrow.Author.Needs.{needs}
 use Rattle.text.proofs.put_line.Statement.{statement}
 use Rattle.text.proofs.put_line.Tie as tie
 use native.Mathlib.Omega.{arith}
-use Rattle.sheet.specs.Sheet.{tableIn}
+use Rattle.table.specs.Layout.{tableIn}
 use Rattle.index.specs.Index.{source}
 use Rattle.text.proofs.Codes.{codes-few, line-past, line-within, line-put}
 use Rattle.lists.proofs.Written.{wrote-count, wrote-room}

@@ -4,7 +4,7 @@ use Rattle.text.proofs.put_lines.Tie as tie
 use mathlib.Core.Path.{_≡_, refl, sym, _∙_}
 use native.Mathlib.Omega.{arith}
 use lib.ListN.{length}
-use Rattle.sheet.specs.Sheet.{tableIn}
+use Rattle.table.specs.Layout.{tableIn}
 use Rattle.text.proofs.Writing.{Writing, writing-none, writing-full, writing-more, writing-end, line-room, fewer}
 use Rattle.text.specs.Lines.{linesFrom}
 

@@ -2,7 +2,7 @@ use borrow.Author.Needs.{needs}
 use Rattle.text.proofs.put_text.Statement.{statement}
 use Rattle.text.proofs.put_text.Tie as tie
 use native.Mathlib.Omega.{arith}
-use Rattle.sheet.specs.Sheet.{tableIn}
+use Rattle.table.specs.Layout.{tableIn}
 use mathlib.Core.Path.{refl}
 use Rattle.text.proofs.Whole.{found-room, from-clause, no-header, behind, header-room, from-header}
 

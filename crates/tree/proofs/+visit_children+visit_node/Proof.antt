@@ -8,7 +8,7 @@ use Rattle.tree.proofs.+visit_children+visit_node.Lts-visit_children as
 use Rattle.tree.proofs.visit_node.Reads as visit-node
 use Rattle.tree.proofs.visit_node.Kinds as visit-node-kinds
 use Rattle.tree.proofs.+visit_children+visit_node.Lts-visit_node as visit-node-lts
-use Rattle.sheet.proofs.depth.Reads as depth-reads
+use Rattle.table.proofs.depth.Reads as depth-reads
 use Rattle.tree.proofs.child_count.Reads as child-count-reads
 use Rattle.tree.proofs.child_label.Reads as child-label-reads
 use Rattle.tree.proofs.is_inner.Reads as is-inner-reads
@@ -22,7 +22,7 @@ use Prim.Native.Nat.{_+_, _*_}
 use native.Mathlib.Omega.{arith}
 use Rattle.lists.proofs.Bool.{said-no, said-yes}
 use Rattle.lists.proofs.Order.{ne-lt, zero-least}
-use Rattle.sheet.specs.Sheet.{tableIn}
+use Rattle.table.specs.Layout.{tableIn}
 use Rattle.tree.specs.Visit.{labelIn, membersIn, someIn}
 use Rattle.tree.proofs.Loops.{above-zero}
 use Rattle.tree.proofs.Visits.{part-full, part-slot, part-inner, visited-over, parts-none, parts-more}

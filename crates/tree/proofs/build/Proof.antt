@@ -2,7 +2,7 @@ use borrow.Author.Needs.{needs}
 use Rattle.tree.proofs.build.Statement.{statement}
 use Rattle.tree.proofs.build.Tie as tie
 use native.Mathlib.Omega.{arith}
-use Rattle.sheet.specs.Sheet.{tableIn}
+use Rattle.table.specs.Layout.{tableIn}
 use Rattle.tree.proofs.Whole.{built}
 
 visit-requires : tie.Need-visit-requires

@@ -2,7 +2,7 @@ use borrow.Author.Needs.{needs}
 use Rattle.tree.proofs.child_count.Statement.{statement}
 use Rattle.tree.proofs.child_count.Tie as tie
 use Rattle.tree.proofs.Loops.{one-child, no-child, some-children}
-use Rattle.sheet.specs.Sheet.{tableIn}
+use Rattle.table.specs.Layout.{tableIn}
 
 longest-requires : tie.Need-longest-requires
 longest-requires c κs = search needs

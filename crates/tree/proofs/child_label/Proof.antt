@@ -3,7 +3,7 @@ use Rattle.tree.proofs.child_label.Statement.{statement}
 use Rattle.tree.proofs.child_label.Tie as tie
 use native.Mathlib.Omega.{arith}
 use Rattle.tree.proofs.Loops.{Gathering, gathering-none, gathering-again, gathering-all}
-use Rattle.sheet.specs.Sheet.{tableIn}
+use Rattle.table.specs.Layout.{tableIn}
 use lib.ListN.{length}
 use Prim.Native.Nat.{_-_}
 use Rattle.tree.specs.Visit.{labelIn}

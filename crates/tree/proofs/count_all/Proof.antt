@@ -1,7 +1,7 @@
 use borrow.Author.Needs.{needs}
 use Rattle.tree.proofs.count_all.Statement.{statement}
 use Rattle.tree.proofs.count_all.Tie as tie
-use Rattle.sheet.specs.Sheet.{tableIn}
+use Rattle.table.specs.Layout.{tableIn}
 use Rattle.tree.proofs.Whole.{counted}
 
 slice-aggregate-visit : tie.Need-slice-aggregate-visit

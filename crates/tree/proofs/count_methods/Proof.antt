@@ -3,7 +3,7 @@ use Rattle.tree.proofs.count_methods.Statement.{statement}
 use Rattle.tree.proofs.count_methods.Tie as tie
 use native.Mathlib.Omega.{arith}
 use Rattle.tree.proofs.Loops.{Counting, counting-most, counting-again, counting-all}
-use Rattle.sheet.specs.Sheet.{tableIn}
+use Rattle.table.specs.Layout.{tableIn}
 use lib.ListN.{length}
 use Prim.Native.Nat.{_-_}
 use mathlib.Core.Path.{refl}

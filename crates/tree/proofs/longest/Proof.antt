@@ -3,7 +3,7 @@ use Rattle.tree.proofs.longest.Statement.{statement}
 use Rattle.tree.proofs.longest.Tie as tie
 use native.Mathlib.Omega.{arith}
 use Rattle.tree.proofs.Loops.{Longest, longest-none, longest-again, longest-all}
-use Rattle.sheet.specs.Sheet.{tableIn}
+use Rattle.table.specs.Layout.{tableIn}
 use lib.ListN.{length}
 use Prim.Native.Nat.{_-_}
 

@@ -2,7 +2,7 @@ use borrow.Author.Needs.{needs}
 use Rattle.tree.proofs.visit.Statement.{statement}
 use Rattle.tree.proofs.visit.Tie as tie
 use native.Mathlib.Omega.{arith}
-use Rattle.sheet.specs.Sheet.{tableIn}
+use Rattle.table.specs.Layout.{tableIn}
 use Rattle.tree.proofs.Whole.{start-inside, start-visited, no-count}
 
 root-requires : tie.Need-root-requires

@@ -6,7 +6,7 @@ use mathlib.Core.Path.{sym}
 use lib.Seq.{length-take-le}
 use Rattle.lists.proofs.Written.{wrote-whole}
 use Rattle.nodes.specs.Nodes.{recordsIn}
-use Rattle.sheet.specs.Sheet.{tableIn}
+use Rattle.table.specs.Layout.{tableIn}
 use Rattle.answer.proofs.Answered.{heard-by}
 use Rattle.answer.proofs.Taking.{other-tree, not-heard, not-model, took, copy-room}
 

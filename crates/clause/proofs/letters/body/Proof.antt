@@ -5,7 +5,7 @@ use borrow.Author.Needs.{needs}
 use mathlib.Core.Path.{ap}
 use mathlib.Core.Bool.{false}
 use native.Mathlib.Omega.{arith}
-use Rattle.sheet.specs.Sheet.{tableIn}
+use Rattle.table.specs.Layout.{tableIn}
 use Rattle.places.specs.ClausePlace.{literals}
 use Rattle.index.specs.Index.{source}
 use Rattle.shape.proofs.Nodes.{few-methods}

@@ -12,8 +12,8 @@ use Rattle.clause.proofs.letters.body_task.Statement.{statement}
 method-requires : tie.Need-method-requires
 method-requires c κs = search needs
 
-task-requires : tie.Need-task-requires
-task-requires c κs = let s = c .before .before .before .before in (c .method .ensures .1, few-children (s .pre .0) (s .args .y) (s .pre .2))
+body-task-requires : tie.Need-body-task-requires
+body-task-requires c κs = search needs
 
 method-variable-requires : tie.Need-method-variable-requires
 method-variable-requires c κs =
@@ -44,14 +44,14 @@ returns c =
     let z = y .before .before in
     let q = z .before in
     let s = q .before .before .before .before in
-    wrote-then false (omega arith) (y .method-variable .ensures .0) (body-lits (s .pre .0) (s .args .x) (s .args .y) (s .pre .2) (v .child .ensures .0) (q .method .ensures .0) (s .pre .3) (z .task .ensures)) (w .put .ensures) (u .put-task .ensures)
+    wrote-then false (omega arith) (y .method-variable .ensures .0) (body-lits (s .pre .0) (s .args .x) (s .args .y) (s .pre .2) (v .child .ensures .0) (q .method .ensures .0) (s .pre .3) (z .body-task .ensures)) (w .put .ensures) (u .put-task .ensures)
 
 pub body-task-spec : {M : Type 1} → statement M
 body-task-spec =
     tie.close
     (tie.spec
     method-requires
-    task-requires
+    body-task-requires
     method-variable-requires
     put-requires
     child-requires

@@ -4,7 +4,7 @@ use Rattle.clause.proofs.letters.job_of_method.Tie as tie
 use borrow.Author.Needs.{needs}
 use mathlib.Core.Bool.{false}
 use native.Mathlib.Omega.{arith}
-use Rattle.sheet.specs.Sheet.{tableIn}
+use Rattle.table.specs.Layout.{tableIn}
 use Rattle.shape.proofs.Nodes.{few-methods}
 use Rattle.shape.specs.Shape.{node}
 use Rattle.clause.proofs.Codes.{wrote-then}

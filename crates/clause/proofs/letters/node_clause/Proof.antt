@@ -4,7 +4,7 @@ use Rattle.clause.proofs.letters.node_clause.Tie as tie
 use borrow.Author.Needs.{needs}
 use mathlib.Core.Path.{refl, ap}
 use native.Mathlib.Omega.{arith}
-use Rattle.sheet.specs.Sheet.{tableIn}
+use Rattle.table.specs.Layout.{tableIn}
 use Rattle.places.specs.ClausePlace.{upLits}
 use Rattle.shape.specs.Shape.{node}
 use Rattle.shape.proofs.Groups.{letter-g, node-there}

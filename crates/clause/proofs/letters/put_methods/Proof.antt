@@ -4,7 +4,7 @@ use Rattle.clause.proofs.letters.put_methods.Tie as tie
 use borrow.Author.Needs.{needs}
 use Prim.Native.Nat.{_-_}
 use native.Mathlib.Omega.{arith}
-use Rattle.sheet.specs.Sheet.{tableIn}
+use Rattle.table.specs.Layout.{tableIn}
 use Rattle.shape.specs.Shape.{node}
 use Rattle.clause.proofs.Turns.{Methods, methods-none, methods-room, methods-more, methods-all}
 use Rattle.clause.proofs.letters.put_methods.Statement.{statement}
@@ -37,7 +37,7 @@ method-variable-requires c κs =
     (s .pre .0, omega (arith, c .before .loop-test .taken, u .methods-of .ensures .1))
 
 job-of-requires : tie.Need-job-of-requires Inv-loop μ-loop
-job-of-requires c κs = let u = c .before .before in u .method .ensures .1
+job-of-requires c κs = search needs
 
 put-if-requires : tie.Need-put-if-requires Inv-loop μ-loop
 put-if-requires c κs =

@@ -4,7 +4,7 @@ use Rattle.clause.proofs.letters.put_tasks.Tie as tie
 use borrow.Author.Needs.{needs}
 use Prim.Native.Nat.{_-_}
 use native.Mathlib.Omega.{arith}
-use Rattle.sheet.specs.Sheet.{tableIn}
+use Rattle.table.specs.Layout.{tableIn}
 use Rattle.shape.specs.Shape.{node}
 use Rattle.clause.proofs.Turns.{AllTasks, tasks-none, tasks-room, tasks-more, tasks-all}
 use Rattle.clause.proofs.letters.put_tasks.Statement.{statement}

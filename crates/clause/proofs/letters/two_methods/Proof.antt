@@ -4,7 +4,7 @@ use Rattle.clause.proofs.letters.two_methods.Tie as tie
 use borrow.Author.Needs.{needs}
 use mathlib.Core.Bool.{false}
 use Prim.Native.Nat.{_+_}
-use Rattle.sheet.specs.Sheet.{tableIn}
+use Rattle.table.specs.Layout.{tableIn}
 use Rattle.places.specs.ClausePlace.{tasksN}
 use Rattle.shape.specs.Shape.{node}
 use Rattle.clause.proofs.Codes.{wrote-pair}

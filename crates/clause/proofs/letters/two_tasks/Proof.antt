@@ -3,7 +3,7 @@
 use Rattle.clause.proofs.letters.two_tasks.Tie as tie
 use borrow.Author.Needs.{needs}
 use mathlib.Core.Bool.{false}
-use Rattle.sheet.specs.Sheet.{tableIn}
+use Rattle.table.specs.Layout.{tableIn}
 use Rattle.shape.specs.Shape.{node}
 use Rattle.clause.proofs.Codes.{wrote-pair}
 use Rattle.clause.proofs.Cases.{behind}

@@ -5,7 +5,7 @@ use borrow.Author.Needs.{needs}
 use mathlib.Core.Bool.{false}
 use native.Mathlib.Omega.{arith}
 use Rattle.planning.specs.Clause.{allPos}
-use Rattle.sheet.specs.Sheet.{tableIn}
+use Rattle.table.specs.Layout.{tableIn}
 use Rattle.places.specs.Flat.{tasksAt}
 use Rattle.shape.specs.Shape.{node}
 use Rattle.clause.proofs.Codes.{wrote-last}

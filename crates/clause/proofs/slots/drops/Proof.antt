@@ -3,7 +3,7 @@
 use Rattle.clause.proofs.slots.drops.Tie as tie
 use borrow.Author.Needs.{needs}
 use Rattle.planning.specs.Table.{stepOf}
-use Rattle.sheet.specs.Sheet.{tableIn}
+use Rattle.table.specs.Layout.{tableIn}
 use Rattle.clause.proofs.Facts.{has-is, set-kept, clear-dropped}
 use Rattle.clause.proofs.slots.drops.Statement.{statement}
 

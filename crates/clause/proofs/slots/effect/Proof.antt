@@ -4,7 +4,7 @@ use Rattle.clause.proofs.slots.effect.Tie as tie
 use borrow.Author.Needs.{needs}
 use mathlib.Core.Path.{refl}
 use native.Mathlib.Omega.{arith}
-use Rattle.sheet.specs.Sheet.{tableIn}
+use Rattle.table.specs.Layout.{tableIn}
 use Rattle.shape.proofs.Groups.{slot-there}
 use Rattle.shape.proofs.Slots.{few-slot}
 use Rattle.clause.proofs.Codes.{wrote-lits}

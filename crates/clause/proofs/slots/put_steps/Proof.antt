@@ -5,7 +5,7 @@ use Rattle.clause.proofs.slots.put_steps.Statement.{statement}
 use Rattle.clause.proofs.slots.put_steps.Tie as tie
 use Prim.Native.Nat.{_-_}
 use native.Mathlib.Omega.{arith}
-use Rattle.sheet.specs.Sheet.{tableIn}
+use Rattle.table.specs.Layout.{tableIn}
 use Rattle.shape.proofs.Nodes.{few}
 use Rattle.shape.proofs.Slots.{slot-node}
 use Rattle.clause.proofs.Turns.{Steps, steps-none, steps-room, steps-more, steps-all, slot-variable, slot-step}

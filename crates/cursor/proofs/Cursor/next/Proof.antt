@@ -2,7 +2,7 @@ use borrow.Author.Needs.{needs}
 use Rattle.cursor.proofs.Cursor.next.Statement.{statement}
 use Rattle.cursor.proofs.Cursor.next.Tie as tie
 use mathlib.Core.Path.{refl}
-use Rattle.sheet.specs.Sheet.{tableIn}
+use Rattle.table.specs.Layout.{tableIn}
 use Rattle.cursor.specs.Cursor.{rankOf}
 use Rattle.cursor.proofs.Moves.{Upto, upto-move, stands-of, hands-out, ends}
 

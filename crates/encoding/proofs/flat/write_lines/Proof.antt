@@ -6,7 +6,7 @@ use Rattle.encoding.proofs.flat.write_lines.Tie as tie
 use mathlib.Core.Path.{sym}
 use lib.Seq.{length-take-le}
 use Rattle.nodes.specs.Nodes.{recordsIn}
-use Rattle.sheet.specs.Sheet.{tableIn}
+use Rattle.table.specs.Layout.{tableIn}
 use Rattle.encoding.proofs.Answers.{other-tree, own-tree}
 
 slice-aggregate-place : tie.Need-slice-aggregate-place

@@ -9,7 +9,7 @@ use native.Mathlib.Omega.{arith}
 use lib.ListN.{length}
 use Rattle.lists.proofs.Bool.{said-no, said-yes}
 use Rattle.planning.specs.Model.{value, truthsIn}
-use Rattle.sheet.specs.Sheet.{tableIn}
+use Rattle.table.specs.Layout.{tableIn}
 use Rattle.model.proofs.Clauses.{here, further, row-over, row-told, Along, along-first, along-off, along-more, along-end}
 
 abbrev Inv-loop : tie.InvT-loop

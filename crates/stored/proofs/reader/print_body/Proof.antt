@@ -6,10 +6,10 @@ use Rattle.stored.proofs.reader.print_body.Tie as tie
 use Prim.Native.Nat.{_-_}
 
 abbrev Inv-loop : tie.InvT-loop
-Inv-loop t m n j₀ t6 j = Unit {0}
+Inv-loop ws m n j₀ t6 j = Unit {0}
 
 abbrev μ-loop : tie.MeasureT-loop
-μ-loop t m n j₀ t6 j = n - j
+μ-loop ws m n j₀ t6 j = n - j
 
 body-size-requires : tie.Need-body-size-requires Inv-loop μ-loop
 body-size-requires c κs = search needs
@@ -29,8 +29,8 @@ slice-aggregate-bytes-2 c = search needs
 bytes-requires-2 : tie.Need-bytes-requires-2 Inv-loop μ-loop
 bytes-requires-2 c κs = search needs
 
-task-requires : tie.Need-task-requires Inv-loop μ-loop
-task-requires c κs = search needs
+body-task-requires : tie.Need-body-task-requires Inv-loop μ-loop
+body-task-requires c κs = search needs
 
 print-task-requires : tie.Need-print-task-requires Inv-loop μ-loop
 print-task-requires c κs = search needs
@@ -59,7 +59,7 @@ print-body-spec =
     loop-holds
     slice-aggregate-bytes-2
     bytes-requires-2
-    task-requires
+    body-task-requires
     print-task-requires
     add-j
     loop-less

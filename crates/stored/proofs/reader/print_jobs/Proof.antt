@@ -4,13 +4,13 @@ use borrow.Author.Needs.{needs}
 use Rattle.stored.proofs.reader.print_jobs.Statement.{statement}
 use Rattle.stored.proofs.reader.print_jobs.Tie as tie
 use Prim.Native.Nat.{_-_}
-use Rattle.table.specs.Layout.{tableFrom}
+use Rattle.table.specs.Layout.{tableIn}
 
 abbrev Inv-loop : tie.InvT-loop
-Inv-loop t file i₀ t4 i = Unit {0}
+Inv-loop file ws i₀ t4 i = Unit {0}
 
 abbrev μ-loop : tie.MeasureT-loop
-μ-loop t file i₀ t4 i = (tableFrom t) .jobs - i
+μ-loop file ws i₀ t4 i = (tableIn ws) .jobs - i
 
 loop-holds : tie.Need-loop-holds Inv-loop μ-loop
 loop-holds c = search needs

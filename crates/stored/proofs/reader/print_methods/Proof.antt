@@ -5,13 +5,13 @@ use Rattle.stored.proofs.reader.print_methods.Statement.{statement}
 use Rattle.stored.proofs.reader.print_methods.Tie as tie
 use Prim.Native.Nat.{_-_}
 use lib.ListN.{length}
-use Rattle.table.specs.Layout.{tableFrom}
+use Rattle.table.specs.Layout.{tableIn}
 
 abbrev Inv-loop : tie.InvT-loop
-Inv-loop t m₀ t3 m = Unit {0}
+Inv-loop ws m₀ t3 m = Unit {0}
 
 abbrev μ-loop : tie.MeasureT-loop
-μ-loop t m₀ t3 m = length ((tableFrom t) .methods) - m
+μ-loop ws m₀ t3 m = length ((tableIn ws) .methods) - m
 
 loop-holds : tie.Need-loop-holds Inv-loop μ-loop
 loop-holds c = search needs

@@ -5,13 +5,13 @@ use Rattle.stored.proofs.reader.print_steps.Statement.{statement}
 use Rattle.stored.proofs.reader.print_steps.Tie as tie
 use Prim.Native.Nat.{_-_}
 use lib.ListN.{length}
-use Rattle.table.specs.Layout.{tableFrom}
+use Rattle.table.specs.Layout.{tableIn}
 
 abbrev Inv-loop : tie.InvT-loop
-Inv-loop t file n i₀ t5 i = Unit {0}
+Inv-loop file ws n i₀ t5 i = Unit {0}
 
 abbrev μ-loop : tie.MeasureT-loop
-μ-loop t file n i₀ t5 i = length ((tableFrom t) .steps) - i
+μ-loop file ws n i₀ t5 i = length ((tableIn ws) .steps) - i
 
 facts-requires : tie.Need-facts-requires Inv-loop μ-loop
 facts-requires c κs = search needs
