@@ -13,6 +13,6 @@ pub mod Showing
 pub mod ShowingAnswer
 pub mod Loops
 pub mod Outcomes
-pub mod Lent
+-- the walk that the calls over records share
 -- the walk that the calls over records share
 pub mod Records

@@ -1,96 +1,145 @@
 -- What each call answers and leaves, question by question.
 -- By the definition of the calls.
-use mathlib.Core.Path.{_≡_, sym, _∙_, subst}
-use mathlib.Core.Bool.{Bool, true, false, _&&_}
+use mathlib.Core.Path.{_≡_, refl, sym, _∙_}
+use mathlib.Core.Bool.{Bool, true, false, not, _&&_}
 use mathlib.Core.List.{List, [], _∷_, _++_}
 use Prim.Native.Nat.{ℕ, _≤_, _<_}
-use lib.ListN.{length, drop}
+use lib.Dec.{leb}
+use lib.ListN.{length, getD, drop}
 use Rattle.lists.proofs.Bool.{leb-in, and-off, leb-no}
 use Rattle.planning.specs.Table.{Table}
 use Rattle.planning.specs.Variable.{variables}
 use Rattle.planning.specs.Model.{bits}
-use Rattle.nodes.specs.Nodes.{recordsIn, lentIn}
-use Rattle.nodes.specs.Tree.{enoughTree}
-use Rattle.nodes.specs.declared.Node.{Node}
-use Rattle.nodes.proofs.Words.{lent-all}
 use Rattle.questions.specs.Questions.{HandedBack, turnedDown, taken}
-use Rattle.questions.specs.Parts.{IsPrepared}
-use Rattle.questions.specs.declared.Prepared.{Prepared}
+use Rattle.questions.specs.Own.{questionAt, tableAs, Owned, IsRead}
 use Rattle.questions.proofs.Asked.{asked-short, asked-unmet, asked-met}
-use Rattle.answer.specs.Calls.{enoughValues, enoughListing, takenFrom, answered, questionsTaking, taking, valuesAfter, listedFrom, questionsListing, shown, showing, listingAfter, questionsOfAnswer, shownAnswer, showingAnswer, answerListingAfter}
-use Rattle.answer.specs.Parts.{Took, Showed, ShowedAnswer}
+use Rattle.answer.specs.Calls.{enoughValues, enoughListing, takenFrom, answered, listedFrom, shown, questionsOfAnswer, shownAnswer}
+use Rattle.answer.specs.Calls.{showingAnswer, answerListingAfter}
+use Rattle.answer.specs.Parts.{Took, questionsOfValues, Showed, ShowedAnswer, takingOf, valuesAfterOf, showingOf, listingAfterOf}
 use Rattle.answer.specs.declared.Taken.{Taken}
+use Rattle.answer.specs.declared.Taken.the-variants.{Refused as TakeRefused}
 use Rattle.answer.specs.declared.Listed.{Listed}
 use Rattle.answer.specs.declared.Listed.the-variants.{Refused}
-use Rattle.table.specs.Layout.{tableIn}
+
+-- the number of the question, as the code has it
+met : {q k : ℕ} → q ≡ k → q ≡ 0 → k ≡ 0
+met e z = sym e ∙ z
+
+unmet : {q k : ℕ} → q ≡ k → (q ≡ 0 → ⊥) → k ≡ 0 → ⊥
+unmet e u z = u (e ∙ z)
+
+pub met-read : {file own : List ℕ} {q : ℕ} → IsRead file own → q ≡ getD own questionAt 0 → q ≡ 0 → Owned file own
+met-read r e z = r .met (met e z)
+
+off : (b : Bool) → not b ≡ true → b ≡ false
+off true d = sym d
+off false d = refl
+
+on : (b : Bool) → not b ≡ false → b ≡ true
+on true d = refl
+on false d = sym d
 
 -- Taking an answer -----------------------------------------------------------------------------------------------------------------
-module _ (file : List ℕ) (tree : List Node) (answer values : List ℕ) where
-  pub take-short : (enoughTree tree && enoughValues values) ≡ false → (turnedDown 1 ≡ taking file tree answer values) × (values ≡ valuesAfter file tree answer values)
-  take-short e = (
-    sym (asked-short file (questionsTaking tree answer) turnedDown (λ T. taken (variables T ∷ [])) e),
-    sym (asked-short file (questionsTaking tree answer) (λ n. values) (λ T. bits (answered T answer) ++ drop (variables T) values) e),
-  )
+module _ (file answer values : List ℕ) (lent : ℕ) (same : Bool) where
+  abbrev TakeOutcome : Taken → List ℕ → Type 0
+  TakeOutcome r values′ = (takenFrom r ≡ takingOf lent same file answer values) × (values′ ≡ valuesAfterOf lent same file answer values)
 
-  pub take-short-tree : length tree < 1024 → (enoughTree tree && enoughValues values) ≡ false
-  take-short-tree h = rw (leb-no 1024 (length tree) h)
+  abbrev takeMore : Table → List (ℕ × Bool)
+  takeMore T = (10, same) ∷ questionsOfAnswer answer T
 
-  pub take-short-values : length values < 8191 → (enoughTree tree && enoughValues values) ≡ false
-  take-short-values h = rw (leb-no 8191 (length values) h) (and-off (enoughTree tree))
+  abbrev takes : Table → HandedBack
+  takes T = taken (variables T ∷ [])
 
-  module _ (h : 1024 ≤ length tree) (k : 8191 ≤ length values) {p : Prepared} (prepared : IsPrepared file p) where
-    enough : (enoughTree tree && enoughValues values) ≡ true
-    enough = rw (leb-in 1024 (length tree) h, leb-in 8191 (length values) k)
+  abbrev takeLeaves : Table → List ℕ
+  takeLeaves T = bits (answered T answer) ++ drop (variables T) values
 
-    pub take-unmet : (p .question ≡ 0 → ⊥) → (turnedDown (p .question) ≡ taking file tree answer values) × (values ≡ valuesAfter file tree answer values)
+  take-short : (leb 1024 lent && enoughValues values) ≡ false → TakeOutcome (TakeRefused 1) values
+  take-short b = (sym (asked-short file takeMore turnedDown takes b), sym (asked-short file takeMore (λ n. values) takeLeaves b))
+
+  pub take-short-tree : lent < 1024 → TakeOutcome (TakeRefused 1) values
+  take-short-tree h = take-short (rw (leb-no 1024 lent h))
+
+  pub take-short-values : length values < 8191 → TakeOutcome (TakeRefused 1) values
+  take-short-values h = take-short (rw (leb-no 8191 (length values) h) (and-off (leb 1024 lent)))
+
+  module _ (h : 1024 ≤ lent) (k : 8191 ≤ length values) {own : List ℕ} (read : IsRead file own) {q : ℕ} (e : q ≡ getD own questionAt 0) where
+    take-enough : (leb 1024 lent && enoughValues values) ≡ true
+    take-enough = rw (leb-in 1024 lent h, leb-in 8191 (length values) k)
+
+    pub take-unmet : (q ≡ 0 → ⊥) → TakeOutcome (TakeRefused q) values
     take-unmet u = (
-      sym (asked-unmet file (questionsTaking tree answer) turnedDown (λ T. taken (variables T ∷ [])) prepared enough u),
-      sym (asked-unmet file (questionsTaking tree answer) (λ n. values) (λ T. bits (answered T answer) ++ drop (variables T) values) prepared enough u),
+      rw e (sym (asked-unmet file takeMore turnedDown takes read take-enough (unmet e u))),
+      sym (asked-unmet file takeMore (λ n. values) takeLeaves read take-enough (unmet e u)),
     )
 
-    pub take-met : {values′ : List ℕ} {r : Taken} → p .question ≡ 0 → Took (tableIn (p .table)) tree answer values values′ r
-        → (takenFrom r ≡ taking file tree answer values) × (values′ ≡ valuesAfter file tree answer values)
-    take-met z t = (
-      t .handed-back ∙ sym (asked-met file (questionsTaking tree answer) turnedDown (λ T. taken (variables T ∷ [])) prepared enough z),
-      t .left ∙ sym (asked-met file (questionsTaking tree answer) (λ n. values) (λ T. bits (answered T answer) ++ drop (variables T) values) prepared enough z),
-    )
+    module _ (z : q ≡ 0) where
+      pub take-other : not same ≡ true → TakeOutcome (TakeRefused 10) values
+      take-other d =
+          let f : same ≡ false = off same d in (
+            sym (asked-met file takeMore turnedDown takes read take-enough (met e z) ∙ rw f),
+            sym (asked-met file takeMore (λ n. values) takeLeaves read take-enough (met e z) ∙ rw f),
+          )
+
+      pub take-met : not same ≡ false → {r : Taken} {values′ : List ℕ} → Took (tableAs own) answer values values′ r → TakeOutcome r values′
+      take-met d t =
+          let f : same ≡ true = on same d in (
+            t .handed-back ∙ sym (asked-met file takeMore turnedDown takes read take-enough (met e z) ∙ rw f),
+            t .left ∙ sym (asked-met file takeMore (λ n. values) takeLeaves read take-enough (met e z) ∙ rw f),
+          )
 
 -- Listing a procedure --------------------------------------------------------------------------------------------------------------
-module _ (file : List ℕ) (tree : List Node) (values text : List ℕ) where
-  abbrev pub lentEnough : Bool
-  lentEnough = enoughTree tree && (enoughValues values && enoughListing text)
+module _ (file values text : List ℕ) (lent : ℕ) (same : Bool) where
+  abbrev ListOutcome : Listed → List ℕ → Type 0
+  ListOutcome r text′ = (listedFrom r ≡ showingOf lent same file values text) × (text′ ≡ listingAfterOf lent same file values text)
 
-  pub list-short : lentEnough ≡ false → (turnedDown 1 ≡ showing file tree values text) × (text ≡ listingAfter file tree values text)
-  list-short e = (
-    sym (asked-short file (questionsListing tree values) turnedDown (λ T. taken (length (shown file values T) ∷ [])) e),
-    sym (asked-short file (questionsListing tree values) (λ n. text) (λ T. shown file values T ++ drop (length (shown file values T)) text) e),
-  )
+  abbrev listMore : Table → List (ℕ × Bool)
+  listMore T = (10, same) ∷ questionsOfValues values T
 
-  pub list-short-tree : length tree < 1024 → lentEnough ≡ false
-  list-short-tree h = rw (leb-no 1024 (length tree) h)
+  abbrev lists : Table → HandedBack
+  lists T = taken (length (shown file values T) ∷ [])
 
-  pub list-short-values : length values < 8191 → lentEnough ≡ false
-  list-short-values h = rw (leb-no 8191 (length values) h) (and-off (enoughTree tree))
+  abbrev listLeaves : Table → List ℕ
+  listLeaves T = shown file values T ++ drop (length (shown file values T)) text
 
-  pub list-short-text : length text < 24576 → lentEnough ≡ false
-  list-short-text h = rw (leb-no 24576 (length text) h, and-off (enoughValues values)) (and-off (enoughTree tree))
+  abbrev listEnough : Bool
+  listEnough = leb 1024 lent && (enoughValues values && enoughListing text)
 
-  module _ (h : 1024 ≤ length tree) (k : 8191 ≤ length values) (l : 24576 ≤ length text) {p : Prepared} (prepared : IsPrepared file p) where
-    all-enough : lentEnough ≡ true
-    all-enough = rw (leb-in 1024 (length tree) h, leb-in 8191 (length values) k, leb-in 24576 (length text) l)
+  list-short : listEnough ≡ false → ListOutcome (Refused 1) text
+  list-short b = (sym (asked-short file listMore turnedDown lists b), sym (asked-short file listMore (λ n. text) listLeaves b))
 
-    pub list-unmet : (p .question ≡ 0 → ⊥) → (turnedDown (p .question) ≡ showing file tree values text) × (text ≡ listingAfter file tree values text)
+  pub list-short-tree : lent < 1024 → ListOutcome (Refused 1) text
+  list-short-tree h = list-short (rw (leb-no 1024 lent h))
+
+  pub list-short-values : length values < 8191 → ListOutcome (Refused 1) text
+  list-short-values h = list-short (rw (leb-no 8191 (length values) h) (and-off (leb 1024 lent)))
+
+  pub list-short-text : length text < 24576 → ListOutcome (Refused 1) text
+  list-short-text h = list-short (rw (leb-no 24576 (length text) h, and-off (enoughValues values)) (and-off (leb 1024 lent)))
+
+  module _ (h : 1024 ≤ lent) (k : 8191 ≤ length values) (l : 24576 ≤ length text) {own : List ℕ} (read : IsRead file own) {q : ℕ} (e : q ≡ getD own questionAt 0) where
+    all-enough : listEnough ≡ true
+    all-enough = rw (leb-in 1024 lent h, leb-in 8191 (length values) k, leb-in 24576 (length text) l)
+
+    pub list-unmet : (q ≡ 0 → ⊥) → ListOutcome (Refused q) text
     list-unmet u = (
-      sym (asked-unmet file (questionsListing tree values) turnedDown (λ T. taken (length (shown file values T) ∷ [])) prepared all-enough u),
-      sym (asked-unmet file (questionsListing tree values) (λ n. text) (λ T. shown file values T ++ drop (length (shown file values T)) text) prepared all-enough u),
+      rw e (sym (asked-unmet file listMore turnedDown lists read all-enough (unmet e u))),
+      sym (asked-unmet file listMore (λ n. text) listLeaves read all-enough (unmet e u)),
     )
 
-    pub list-met : {text′ : List ℕ} {r : Listed} → p .question ≡ 0 → Showed file (tableIn (p .table)) tree values text text′ r
-        → (listedFrom r ≡ showing file tree values text) × (text′ ≡ listingAfter file tree values text)
-    list-met z s = (
-      s .handed-back ∙ sym (asked-met file (questionsListing tree values) turnedDown (λ T. taken (length (shown file values T) ∷ [])) prepared all-enough z),
-      s .left ∙ sym (asked-met file (questionsListing tree values) (λ n. text) (λ T. shown file values T ++ drop (length (shown file values T)) text) prepared all-enough z),
-    )
+    module _ (z : q ≡ 0) where
+      pub list-other : not same ≡ true → ListOutcome (Refused 10) text
+      list-other d =
+          let f : same ≡ false = off same d in (
+            sym (asked-met file listMore turnedDown lists read all-enough (met e z) ∙ rw f),
+            sym (asked-met file listMore (λ n. text) listLeaves read all-enough (met e z) ∙ rw f),
+          )
+
+      pub list-met : not same ≡ false → {r : Listed} {text′ : List ℕ} → Showed file (tableAs own) values text text′ r → ListOutcome r text′
+      list-met d s =
+          let f : same ≡ true = on same d in (
+            s .handed-back ∙ sym (asked-met file listMore turnedDown lists read all-enough (met e z) ∙ rw f),
+            s .left ∙ sym (asked-met file listMore (λ n. text) listLeaves read all-enough (met e z) ∙ rw f),
+          )
 
 -- Listing an answer's procedure -----------------------------------------------------------------------------------------------------
 module _ (file answer text : List ℕ) where
@@ -105,29 +154,20 @@ module _ (file answer text : List ℕ) where
 
   pub answer-short : length text < 24576 → AnswerListed (Refused 1) text
   answer-short h =
-      let e = leb-no 24576 (length text) h in (
-        sym (asked-short file (questionsOfAnswer answer) turnedDown answers e),
-        sym (asked-short file (questionsOfAnswer answer) (λ n. text) leaves e),
-      )
+      let b = leb-no 24576 (length text) h in
+      (sym (asked-short file (questionsOfAnswer answer) turnedDown answers b), sym (asked-short file (questionsOfAnswer answer) (λ n. text) leaves b))
 
-  module _ (k : 24576 ≤ length text) {p : Prepared} (prepared : IsPrepared file p) where
-    pub answer-unmet : (p .question ≡ 0 → ⊥) → AnswerListed (Refused (p .question)) text
+  module _ (k : 24576 ≤ length text) {own : List ℕ} (read : IsRead file own) {q : ℕ} (e : q ≡ getD own questionAt 0) where
+    pub answer-unmet : (q ≡ 0 → ⊥) → AnswerListed (Refused q) text
     answer-unmet u =
-        let e = leb-in 24576 (length text) k in (
-          sym (asked-unmet file (questionsOfAnswer answer) turnedDown answers prepared e u),
-          sym (asked-unmet file (questionsOfAnswer answer) (λ n. text) leaves prepared e u),
+        let b = leb-in 24576 (length text) k in (
+          rw e (sym (asked-unmet file (questionsOfAnswer answer) turnedDown answers read b (unmet e u))),
+          sym (asked-unmet file (questionsOfAnswer answer) (λ n. text) leaves read b (unmet e u)),
         )
 
-    pub answer-met : {text′ : List ℕ} {r : Listed} → p .question ≡ 0 → ShowedAnswer file (tableIn (p .table)) answer text text′ r → AnswerListed r text′
+    pub answer-met : q ≡ 0 → {r : Listed} {text′ : List ℕ} → ShowedAnswer file (tableAs own) answer text text′ r → AnswerListed r text′
     answer-met z s =
-        let e = leb-in 24576 (length text) k in (
-          s .handed-back ∙ sym (asked-met file (questionsOfAnswer answer) turnedDown answers prepared e z),
-          s .left ∙ sym (asked-met file (questionsOfAnswer answer) (λ n. text) leaves prepared e z),
+        let b = leb-in 24576 (length text) k in (
+          s .handed-back ∙ sym (asked-met file (questionsOfAnswer answer) turnedDown answers read b (met e z)),
+          s .left ∙ sym (asked-met file (questionsOfAnswer answer) (λ n. text) leaves read b (met e z)),
         )
-
--- All 1,024 records were lent ------------------------------------------------------------------------------------------------------------
-pub took-all : {T : Table} {lent : ℕ} {answer values values′ : List ℕ} {r : Taken} (words : List ℕ) → 5120 ≤ length words → 1024 ≤ lent → Took T (recordsIn words) answer values values′ r → Took T (lentIn lent words) answer values values′ r
-took-all {T} {lent} {answer} {values} {values′} {r} words k h t = subst (λ (tree : List Node). Took T tree answer values values′ r) (sym (lent-all words k h)) t
-
-pub showed-all : {file : List ℕ} {T : Table} {lent : ℕ} {values text text′ : List ℕ} {r : Listed} (words : List ℕ) → 5120 ≤ length words → 1024 ≤ lent → Showed file T (recordsIn words) values text text′ r → Showed file T (lentIn lent words) values text text′ r
-showed-all {file} {T} {lent} {values} {text} {text′} {r} words k h t = subst (λ (tree : List Node). Showed file T tree values text text′ r) (sym (lent-all words k h)) t

@@ -69,24 +69,22 @@ module _ (qs : List (ℕ × Bool)) where
   tenth-met false h = absurd (omega arith)
   tenth-met true h = (refl, h)
 
--- Listing a procedure: 10, 14 and 15 -----------------------------------------------------------------------------------------------
-abbrev pub lentThree : (a d e : Bool) → List (ℕ × Bool)
-lentThree a d e = (10, a) ∷ (14, d) ∷ (15, e) ∷ []
+-- Of lent values: 14 and 15 -----------------------------------------------------------------------------------------------------
+module _ (d e : Bool) where
+  pub lent-14 : d ≡ false → firstUnmet ((14, d) ∷ (15, e) ∷ []) ≡ 14
+  lent-14 q = rw q
 
-module _ (a d e : Bool) where
-  pub lent-10 : a ≡ false → firstUnmet (lentThree a d e) ≡ 10
-  lent-10 p = rw p
+  pub lent-15 : d ≡ true → e ≡ false → firstUnmet ((14, d) ∷ (15, e) ∷ []) ≡ 15
+  lent-15 q r = rw (q, r)
 
-  pub lent-14 : a ≡ true → d ≡ false → firstUnmet (lentThree a d e) ≡ 14
-  lent-14 p q = rw (p, q)
+  pub lent-all : d ≡ true → e ≡ true → firstUnmet ((14, d) ∷ (15, e) ∷ []) ≡ 0
+  lent-all q r = rw (q, r)
 
-  pub lent-15 : a ≡ true → d ≡ true → e ≡ false → firstUnmet (lentThree a d e) ≡ 15
-  lent-15 p q r = rw (p, q, r)
+-- and 10 before them
+pub lent-three : (a d e : Bool) → a ≡ true → d ≡ true → e ≡ true → firstUnmet ((10, a) ∷ (14, d) ∷ (15, e) ∷ []) ≡ 0
+lent-three a d e p q r = rw (p, q, r)
 
-  pub lent-all : a ≡ true → d ≡ true → e ≡ true → firstUnmet (lentThree a d e) ≡ 0
-  lent-all p q r = rw (p, q, r)
-
-pub lent-met : (a d e : Bool) → firstUnmet (lentThree a d e) ≡ 0 → (a ≡ true) × (d ≡ true) × (e ≡ true)
+pub lent-met : (a d e : Bool) → firstUnmet ((10, a) ∷ (14, d) ∷ (15, e) ∷ []) ≡ 0 → (a ≡ true) × (d ≡ true) × (e ≡ true)
 lent-met false d e h = absurd (omega arith)
 lent-met true false e h = absurd (omega arith)
 lent-met true true false h = absurd (omega arith)

@@ -10,23 +10,20 @@ use Rattle.lists.specs.Question.{firstUnmet}
 use Rattle.lists.specs.Written.{Wrote}
 use Rattle.lists.proofs.Written.{wrote-whole}
 use Rattle.planning.specs.Table.{Table}
-use Rattle.planning.specs.Record.{records}
 use Rattle.planning.specs.Variable.{variables}
 use Rattle.planning.specs.Clause.{formula}
 use Rattle.planning.specs.Model.{value, satisfies, truthsIn}
-use Rattle.table.specs.Layout.{tableIn, namePartsIn}
-use Rattle.tree.specs.Words.{treeWords}
-use Rattle.shape.specs.Shape.{Indexed}
+use Rattle.table.specs.Layout.{namePartsIn}
 use Rattle.solver.specs.Scan.{Heard}
 use Rattle.listing.specs.Listing.{Names, shownNames}
-use Rattle.listing.specs.Walk.{walked, valueOf, Listable}
+use Rattle.listing.specs.Walk.{walked, valueOf}
 use Rattle.questions.specs.Questions.{namesOf, taken}
-use Rattle.questions.specs.Parts.{AcceptedAs}
+use Rattle.questions.specs.Own.{tableOf, tableAs, Owned}
 use Rattle.answer.specs.Calls.{questionsOfAnswer, shownAnswer}
 use Rattle.answer.specs.Parts.{ShowedAnswer}
 use Rattle.answer.specs.declared.Listed.the-variants.{Refused, Written}
 use Rattle.answer.proofs.Answered as answered
-use Rattle.answer.proofs.Lending.{own-names, names-short}
+use Rattle.answer.proofs.Lending.{own-names}
 use Rattle.answer.proofs.Showing.{model-walked}
 
 refused-by : {file : List ℕ} {T : Table} {answer text : List ℕ} {q : ℕ} → firstUnmet (questionsOfAnswer answer T) ≡ q → (q ≡ 0 → ⊥)
@@ -37,39 +34,33 @@ refused-by {file} {T} {answer} {text} {q} e u = go q e u
     go zero e u = absurd (u refl)
     go (suc n) e u = record { handed-back = sym (rw e); left = sym (rw e) }
 
-module _ (file : List ℕ) {ws : List ℕ} (stands : AcceptedAs file ws) {n : ℕ} (e : n ≡ variables (tableIn ws)) (answer text : List ℕ) {q : ℕ} {cells : List ℕ}
-    (h : Heard n answer cells q) where
+module _ {file own : List ℕ} (o : Owned file own) (answer text : List ℕ) {n q : ℕ} {cells : List ℕ} (e : n ≡ variables (tableAs own)) (h : Heard n answer cells q) where
   abbrev T : Table
-  T = tableIn ws
+  T = tableAs own
 
-  abbrev heardValues : List ℕ
-  heardValues = take n cells
-
-  pub not-heard : (q ≡ 0 → ⊥) → ShowedAnswer file T answer text text (Refused q)
+  pub not-heard : (q ≡ 0 → ⊥) → ShowedAnswer file (tableAs own) answer text text (Refused q)
   not-heard u = refused-by (answered.not-heard T answer e h u) u
 
-  module _ (y : q ≡ 0) {b : Bool} (s : b ≡ satisfies (value (truthsIn heardValues)) (formula T)) where
-    pub not-model : not b ≡ true → ShowedAnswer file T answer text text (Refused 15)
-    not-model f = refused-by (answered.not-model T answer e h y s f) (λ z. omega arith)
+  module _ (y : q ≡ 0) where
+    -- there are values for the listing
+    pub values-long : variables (tableAs own) ≤ length (take n cells)
+    values-long = omega (arith, answered.same-length T answer e h y)
 
-    -- what the listing is lent
-    pub listable : {ix tree : List ℕ} → Indexed T ix → tree ≡ treeWords (records T) → Listable ws file T ix tree heardValues
-    listable x t = record {
-      indexed = x;
-      words = t;
-      long = omega (arith, answered.same-length T answer e h y);
-      short = names-short file stands;
-    }
+    module _ {b : Bool} (s : b ≡ satisfies (value (truthsIn (take n cells))) (formula (tableAs own))) where
+      pub not-model : not b ≡ true → ShowedAnswer file (tableAs own) answer text text (Refused 15)
+      not-model f = refused-by (answered.not-model T answer e h y s f) (λ z. omega arith)
 
-    pub showed : not b ≡ false → {text′ : List ℕ} {r : ℕ}
-        → Wrote text 0 (walked T (shownNames file (namePartsIn ws)) (valueOf heardValues)) text′ r → ShowedAnswer file T answer text text′ (Written r)
-    showed f {text′} {r} w =
-        let u : firstUnmet (questionsOfAnswer answer T) ≡ 0 = answered.all-met T answer e h y s f in
-        let m = answered.answered-model T answer (answered.satisfied T answer e h y s f) in
-        let k : walked T (shownNames file (namePartsIn ws)) (valueOf heardValues) ≡ shownAnswer file answer T =
-        ap₂ (λ (N : Names) (vs : List Bool). walked T N (value vs)) (own-names file stands) (answered.same-truths T answer e h y) ∙ model-walked T (stands .table) file m in
-        let j : r ≡ length (shownAnswer file answer T) = omega (arith, w .end, ap length k) in
-        record {
-          handed-back = ap (λ (j : ℕ). taken (j ∷ [])) j ∙ sym (rw u);
-          left = wrote-whole w ∙ (ap (λ (xs : List ℕ). xs ++ drop (length xs) text) k ∙ sym (rw u));
-        }
+      pub showed : not b ≡ false → {text′ : List ℕ} {r : ℕ}
+          → Wrote text 0 (walked (tableAs own) (shownNames file (namePartsIn (tableOf own))) (valueOf (take n cells))) text′ r
+          → ShowedAnswer file (tableAs own) answer text text′ (Written r)
+      showed f {text′} {r} w =
+          let u : firstUnmet (questionsOfAnswer answer T) ≡ 0 = answered.all-met T answer e h y s f in
+          let m = answered.answered-model T answer (answered.satisfied T answer e h y s f) in
+          let k : walked T (shownNames file (namePartsIn (tableOf own))) (valueOf (take n cells)) ≡ shownAnswer file answer T =
+          ap₂ (λ (N : Names) (vs : List Bool). walked T N (value vs)) (own-names o) (answered.same-truths T answer e h y)
+          ∙ model-walked T (o .table) file m in
+          let j : r ≡ length (shownAnswer file answer T) = omega (arith, w .end, ap length k) in
+          record {
+            handed-back = ap (λ (j : ℕ). taken (j ∷ [])) j ∙ sym (rw u);
+            left = wrote-whole w ∙ (ap (λ (xs : List ℕ). xs ++ drop (length xs) text) k ∙ sym (rw u));
+          }

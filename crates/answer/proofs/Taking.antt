@@ -11,14 +11,11 @@ use Rattle.planning.specs.Table.{Table}
 use Rattle.planning.specs.Variable.{variables}
 use Rattle.planning.specs.Clause.{formula}
 use Rattle.planning.specs.Model.{value, satisfies, truthsIn}
-use Rattle.nodes.specs.Tree.{met10}
-use Rattle.nodes.specs.declared.Node.{Node}
 use Rattle.solver.specs.Scan.{Heard}
 use Rattle.questions.specs.Questions.{taken}
-use Rattle.answer.specs.Calls.{questionsOfAnswer, questionsTaking}
+use Rattle.answer.specs.Calls.{questionsOfAnswer}
 use Rattle.answer.specs.Parts.{Took}
 use Rattle.answer.specs.declared.Taken.the-variants.{Refused, Values}
-use Rattle.answer.proofs.Questions.{behind-10, unmet-10}
 use Rattle.answer.proofs.Answered as answered
 
 -- there is room for the values
@@ -26,33 +23,26 @@ pub copy-room : (values : List ℕ) {n q : ℕ} {answer cells : List ℕ} → He
 copy-room values {n} {q} {answer} {cells} r h l = omega (arith, length-take n cells)
 
 -- the first question that is not met is q, which is not 0
-refused-by : {T : Table} {tree : List Node} {answer values : List ℕ} {q : ℕ} → firstUnmet (questionsTaking tree answer T) ≡ q → (q ≡ 0 → ⊥)
-    → Took T tree answer values values (Refused q)
-refused-by {T} {tree} {answer} {values} {q} e u = go q e u
+refused-by : {T : Table} {answer values : List ℕ} {q : ℕ} → firstUnmet (questionsOfAnswer answer T) ≡ q → (q ≡ 0 → ⊥) → Took T answer values values (Refused q)
+refused-by {T} {answer} {values} {q} e u = go q e u
   where
-    go : (q : ℕ) → firstUnmet (questionsTaking tree answer T) ≡ q → (q ≡ 0 → ⊥) → Took T tree answer values values (Refused q)
+    go : (q : ℕ) → firstUnmet (questionsOfAnswer answer T) ≡ q → (q ≡ 0 → ⊥) → Took T answer values values (Refused q)
     go zero e u = absurd (u refl)
     go (suc n) e u = record { handed-back = sym (rw e); left = sym (rw e) }
 
-module _ (T : Table) (tree : List Node) (answer values : List ℕ) where
-  pub other-tree : met10 T tree ≡ false → Took T tree answer values values (Refused 10)
-  other-tree e = refused-by (unmet-10 (questionsOfAnswer answer T) e) (λ z. omega arith)
+module _ (T : Table) (answer values : List ℕ) {n q : ℕ} {cells : List ℕ} (e : n ≡ variables T) (h : Heard n answer cells q) where
+  pub not-heard : (q ≡ 0 → ⊥) → Took T answer values values (Refused q)
+  not-heard u = refused-by (answered.not-heard T answer e h u) u
 
-  module _ (own : met10 T tree ≡ true) {n q : ℕ} {cells : List ℕ} (e : n ≡ variables T) (h : Heard n answer cells q) where
-    behind : firstUnmet (questionsTaking tree answer T) ≡ firstUnmet (questionsOfAnswer answer T)
-    behind = behind-10 (questionsOfAnswer answer T) own
+  module _ (z : q ≡ 0) {b : Bool} (s : b ≡ satisfies (value (truthsIn (take n cells))) (formula T)) where
+    pub not-model : not b ≡ true → Took T answer values values (Refused 15)
+    not-model f = refused-by (answered.not-model T answer e h z s f) (λ z. omega arith)
 
-    pub not-heard : (q ≡ 0 → ⊥) → Took T tree answer values values (Refused q)
-    not-heard u = refused-by (behind ∙ answered.not-heard T answer e h u) u
-
-    module _ (z : q ≡ 0) {b : Bool} (s : b ≡ satisfies (value (truthsIn (take n cells))) (formula T)) where
-      pub not-model : not b ≡ true → Took T tree answer values values (Refused 15)
-      not-model f = refused-by (behind ∙ answered.not-model T answer e h z s f) (λ z. omega arith)
-
-      pub took : {values′ : List ℕ} → not b ≡ false → values′ ≡ take n cells ++ drop (length (take n cells)) values → Took T tree answer values values′ (Values n)
-      took f c =
-          let u : firstUnmet (questionsTaking tree answer T) ≡ 0 = behind ∙ answered.all-met T answer e h z s f in
-          record {
-            handed-back = sym (rw u (ap (λ (k : ℕ). taken (k ∷ [])) (sym e)));
-            left = c ∙ (ap₂ (λ (xs : List ℕ) (k : ℕ). xs ++ drop k values) (answered.same T answer e h z) (answered.same-length T answer e h z) ∙ sym (rw u));
-          }
+    pub took : {values′ : List ℕ} → not b ≡ false → values′ ≡ take n cells ++ drop (length (take n cells)) values → Took T answer values values′ (Values n)
+    took f c =
+        let u : firstUnmet (questionsOfAnswer answer T) ≡ 0 = answered.all-met T answer e h z s f in
+        record {
+          handed-back = sym (rw u (ap (λ (k : ℕ). taken (k ∷ [])) (sym e)));
+          left = c
+              ∙ (ap₂ (λ (xs : List ℕ) (k : ℕ). xs ++ drop k values) (answered.same T answer e h z) (answered.same-length T answer e h z) ∙ sym (rw u));
+        }

@@ -38,7 +38,7 @@ use Rattle.questions.proofs.Asked.{asked-accepted}
 use Rattle.answer.specs.Calls.{enoughValues, enoughListing, met15, answered, questionsOfAnswer, questionsTaking, taking, valuesAfter}
 use Rattle.answer.specs.Calls.{own, lent14, lent, questionsListing, listingOf, shown, showing, shownAnswer, showingAnswer}
 use Rattle.demands.specs.Demand3.{OwnTree, SaysSatisfiable, SetsAndSatisfies, Takes, listingIn, Lists, ListsAnswer, ForEveryAcceptedFile}
-use Rattle.answer.proofs.Questions.{FourMet, four-met, four-of, behind-10, tenth-met, lent-all, lent-met}
+use Rattle.answer.proofs.Questions.{FourMet, four-met, four-of, behind-10, tenth-met, lent-three, lent-met}
 use Rattle.questions.proofs.Acceptance.{accepted-table}
 use Rattle.answer.proofs.Acceptance.{short-names}
 use Rattle.answer.proofs.Answered.{answered-model}
@@ -180,7 +180,7 @@ module _ (file : List ℕ) (T : Table) (a : accepting file ≡ accepted T) where
         → (t : Tree) → Gives T (lent T values) t → Lists file tree values text t
     shows e o p q m t g =
         let N = shownNames file (namesOf file) in
-        let z : firstUnmet (questionsListing tree values T) ≡ 0 = lent-all (met10 T tree) (lent14 T values) (met15 T (lent T values)) o p q in
+        let z : firstUnmet (questionsListing tree values T) ≡ 0 = lent-three (met10 T tree) (lent14 T values) (met15 T (lent T values)) o p q in
         let s : shown file values T ≡ listing N t = ap (listingOf N) g in
         record {
           handed-back = all-asked file T a (questionsListing tree values) turnedDown (λ T. taken (length (shown file values T) ∷ [])) e z ∙ ap (λ (l : List ℕ). taken (length l ∷ [])) s;

@@ -2,6 +2,5 @@
 --
 -- what each call answers and leaves
 pub mod Calls
--- inside: a tree kept as words, and what the calls' parts say
-pub mod Flat
+-- inside: what the calls' parts say
 pub mod Parts

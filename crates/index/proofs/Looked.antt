@@ -33,7 +33,7 @@ slot-before T r qs n b c xs s =
     record { low = omega (arith, s .low); high = omega (arith, s .high); same = s .same ∙ rw (z, y) }
 
 module _ (T : Table) where
-  slots-long : (qs : List Record) (n b : ℕ) → length (slotNodes T n qs) ≡ length (slotsFrom T b qs)
+  pub slots-long : (qs : List Record) (n b : ℕ) → length (slotNodes T n qs) ≡ length (slotsFrom T b qs)
   slots-long [] n b = refl
   slots-long (r ∷ qs) n b = go (inner T r) (slots-long qs (suc n) (b + own T r))
     where

@@ -15,10 +15,12 @@ use Rattle.planning.specs.Place.{methodsOf}
 use Rattle.planning.specs.Record.{Record, records}
 use Rattle.places.specs.Flat.{own, ownAll, jobsAt, methodsAt, nodesFrom}
 use Rattle.places.proofs.Records.{slots-records, vars-records}
-use Rattle.tree.specs.Visit.{membersIn, Counted}
+use Rattle.planning.specs.Variable.{nodeVars}
+use Rattle.tree.specs.Visit.{membersIn, Counted, nodeTotal, slotTotal}
 use Rattle.tree.specs.declared.Count.{Count}
 use Rattle.index.specs.Index.{wordOf, nodeWords, meanings, slotNodes, source, indexOf}
 use Rattle.index.proofs.Known.{nodes-count, nodes-end}
+use Rattle.index.proofs.Looked.{slots-long}
 use Rattle.indexing.specs.Stands.{Stands, AtNode, node, setWords, countWords, childWords}
 use Rattle.indexing.proofs.Nodes.{node-most, variables-most, children-word, steps-in, jobs-in, methods-in, steps-same, step-count, job-count, method-count}
 use Rattle.indexing.proofs.Loops.{isSlot, slots-picked}
@@ -81,21 +83,22 @@ module _ (T : Table) where
         meanings-long qs (suc n) (b + own T r),
       )
 
-  slots-long : length (slotNodes T 0 (records T)) ≤ length ((source T) .nodes)
-  slots-long =
-      let k = length ((source T) .nodes) in
-      omega (arith, ap length (slots-picked T), length-filter (isSlot T) (upTo k), length-from 0 k)
+-- the index is its parts, and three words before them
+pub index-length : (T : Table) → length (indexOf T)
+    ≡ 3 + (length (concatMap nodeWords ((source T) .nodes)) + (length (slotNodes T 0 (records T)) + length (concatMap meanings ((source T) .nodes))))
+index-length T =
+    let A = concatMap nodeWords ((source T) .nodes) in
+    let B = slotNodes T 0 (records T) in
+    let C = concatMap meanings ((source T) .nodes) in
+    omega (arith, length-append A (B ++ C), length-append B C)
+
+-- how long it is, by the counts
+pub index-words : (T : Table) → length (indexOf T) ≡ 3 + (15 * nodeTotal T + (slotTotal T + nodeVars T))
+index-words T =
+    let e : length (slotNodes T 0 (records T)) ≡ slotTotal T = slots-long T (records T) 0 1 ∙ ap length (slots-records T) in
+    omega (arith, index-length T, nodes-end T, nodes-count T, e, meanings-long T (records T) 0 1, vars-records T)
 
 module _ {T : Table} {ws : List ℕ} (s : Stands T ws) where
-  pub nodes-room : length (concatMap nodeWords ((source T) .nodes)) ≤ 15360
-  nodes-room = omega (arith, nodes-end T, node-most s)
-
-  pub slots-room : length (slotNodes T 0 (records T)) ≤ 1024
-  slots-room = omega (arith, slots-long T, node-most s)
-
-  pub meanings-room : length (concatMap meanings ((source T) .nodes)) ≤ 8191
-  meanings-room = omega (arith, meanings-long T (records T) 0 1, variables-most s)
-
   -- The whole
   module _ {c : Count} (k : Counted T c) where
     nodes-are : c .nodes ≡ length ((source T) .nodes)

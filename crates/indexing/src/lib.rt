@@ -10,11 +10,12 @@ ghost use Rattle.lists.specs.Written.{Wrote};
 ghost use Rattle.planning.specs.Place.{methodsOf};
 ghost use Rattle.planning.specs.Record.{records};
 ghost use Rattle.table.specs.Layout.{tableIn};
-ghost use Rattle.tree.specs.Visit.{membersIn, Known};
+ghost use Rattle.tree.specs.Visit.{membersIn, Known, Counted};
 ghost use Rattle.places.specs.Flat.{inner, own as ownOf};
 ghost use Rattle.places.specs.Lookup.{recordAt};
 ghost use Rattle.index.specs.Index.{wordOf, nodeWords, meanings, slotNodes, source, indexOf};
 ghost use Rattle.indexing.specs.Stands.{Stands, AtNode, node, setWords, countWords, childWords};
+use tree::Count;
 
 // Word k of record n: the node's depth, its parent, how many children it has, its steps, its jobs.
 fn word(tree: &[u64], n: usize, k: usize) -> u64
@@ -261,12 +262,11 @@ fn put_all_meanings<'a, 'b>(ws: &'a [u64], tree: &'a [u64], out: &'b mut [u64], 
     a
 }
 
-// Writes the index of the table whose records these are, from the slice's first place on, and returns how many words that were.
-pub fn fill<'a, 'b>(ws: &'a [u64], tree: &'a [u64], out: &'b mut [u64]) -> usize
-    requires { ⌜ Stands (tableIn (now ws)) (now tree) × (24578 ≤ length (now out)) ⌝ }
+// Writes the index of the table whose counts and records these are, from the slice's first place on, and returns how many words that were.
+pub fn fill<'a, 'b>(ws: &'a [u64], tree: &'a [u64], c: Count, out: &'b mut [u64]) -> usize
+    requires { ⌜ Stands (tableIn (now ws)) (now tree) × Counted (tableIn (now ws)) c × (length (indexOf (tableIn (now ws))) ≤ length (now out)) ⌝ }
     ensures { λ r. ⌜ Wrote (now (out .entry)) 0 (indexOf (tableIn (now (ws .entry)))) (now (out .exit)) r ⌝ }
 {
-    let c = tree::count_all(ws);
     let a = put_three(
         out,
         0,

@@ -1,12 +1,12 @@
 -- Inside the calls, nothing to believe: the lent tree records as words, five a record.
 -- Assumes nothing.
-use mathlib.Core.Bool.{cond}
+use mathlib.Core.Bool.{Bool}
 use mathlib.Core.List.{List, [], _∷_, map, _++_}
 use Prim.Native.Nat.{ℕ, _+_, _*_}
-use lib.Dec.{ltb}
-use lib.ListN.{length, getD, take, drop, replicate}
-use Rattle.lists.specs.List.{concatMap, upTo}
+use lib.ListN.{getD, drop}
+use Rattle.lists.specs.List.{all, concatMap, upTo}
 use Rattle.nodes.specs.declared.Node.{Node}
+use Rattle.nodes.specs.Tree.{blank, sameNode}
 
 -- a record's words, and those of records
 abbrev pub nodeWords : Node → List ℕ
@@ -29,21 +29,6 @@ recordAt fs i = record {
 unfoldable pub laid : List ℕ → List Node → ℕ → List Node
 laid fs ns n = map (recordAt fs) (upTo n) ++ drop n ns
 
--- how many of the n records lent a call gathers: as many as it wants, or none where they are too few
-unfoldable pub heldOf : ℕ → ℕ
-heldOf n = cond (ltb n 1024) 0 1024
-
--- the words of the first n records, and the others as they were
-unfoldable pub gathered : List Node → List ℕ → ℕ → List ℕ
-gathered ns fs n = wordsOf (take n ns) ++ drop (n * 5) fs
-
--- the words that a call makes of the records lent
-abbrev pub lentWords : List Node → List ℕ
-lentWords ns = gathered ns (replicate 5120 0) (heldOf (length ns))
-
--- the 1,024 records in words, and the first k of them; none where the words are too few
-unfoldable pub recordsIn : List ℕ → List Node
-recordsIn fs = map (recordAt fs) (upTo 1024)
-
-unfoldable pub lentIn : ℕ → List ℕ → List Node
-lentIn k fs = cond (ltb (length fs) 5120) [] (take k (recordsIn fs))
+-- are the first n records those kept in these words?
+unfoldable pub sameTo : List ℕ → List Node → ℕ → Bool
+sameTo fs ns n = all (λ i. sameNode (getD ns i blank) (recordAt fs i)) (upTo n)

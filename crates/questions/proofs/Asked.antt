@@ -5,12 +5,11 @@ use mathlib.Core.Bool.{Bool, true, false}
 use mathlib.Core.List.{List}
 use Prim.Native.Nat.{ℕ, zero, suc}
 use native.Mathlib.Omega.{arith}
+use lib.ListN.{getD}
 use Rattle.lists.specs.Question.{firstUnmet}
 use Rattle.planning.specs.Table.{Table}
 use Rattle.questions.specs.Questions.{Verdict, unmet, accepted, ifMet, accepting, byNumber, byVerdict, asked, HandedBack, turnedDown, taken}
-use Rattle.questions.specs.Parts.{IsPrepared}
-use Rattle.questions.specs.declared.Prepared.{Prepared}
-use Rattle.table.specs.Layout.{tableIn}
+use Rattle.questions.specs.Own.{questionAt, tableAs, IsRead}
 
 module _ {A : Type 0} (file : List ℕ) (more : Table → List (ℕ × Bool)) (refuse : ℕ → A) (succeed : Table → A) where
   -- a buffer is too short
@@ -21,18 +20,18 @@ module _ {A : Type 0} (file : List ℕ) (more : Table → List (ℕ × Bool)) (r
   pub asked-accepted : {T : Table} → accepting file ≡ accepted T → {b : Bool} → b ≡ true → asked b file more refuse succeed ≡ byNumber (firstUnmet (more T)) refuse (succeed T)
   asked-accepted a e = rw (e, a)
 
-  module _ {p : Prepared} (prepared : IsPrepared file p) {b : Bool} (enough : b ≡ true) where
+  module _ {own : List ℕ} (read : IsRead file own) {b : Bool} (enough : b ≡ true) where
     -- one of 2 to 9 is not met
-    pub asked-unmet : (p .question ≡ 0 → ⊥) → asked b file more refuse succeed ≡ refuse (p .question)
-    asked-unmet u = rw enough (ap (λ (v : Verdict). byVerdict v more refuse succeed) (sym (prepared .verdict)) ∙ go (p .question) u)
+    pub asked-unmet : (getD own questionAt 0 ≡ 0 → ⊥) → asked b file more refuse succeed ≡ refuse (getD own questionAt 0)
+    asked-unmet u = rw enough (ap (λ (v : Verdict). byVerdict v more refuse succeed) (sym (read .verdict)) ∙ go (getD own questionAt 0) u)
       where
-        go : (n : ℕ) → (n ≡ 0 → ⊥) → byVerdict (ifMet n (tableIn (p .table))) more refuse succeed ≡ refuse n
+        go : (n : ℕ) → (n ≡ 0 → ⊥) → byVerdict (ifMet n (tableAs own)) more refuse succeed ≡ refuse n
         go zero u = absurd (u refl)
         go (suc n) u = refl
 
     -- all are met
-    pub asked-met : p .question ≡ 0 → asked b file more refuse succeed ≡ byNumber (firstUnmet (more (tableIn (p .table)))) refuse (succeed (tableIn (p .table)))
-    asked-met z = rw enough (ap (λ (v : Verdict). byVerdict v more refuse succeed) (sym (prepared .verdict)) ∙ ap (λ (n : ℕ). byVerdict (ifMet n (tableIn (p .table))) more refuse succeed) z)
+    pub asked-met : getD own questionAt 0 ≡ 0 → asked b file more refuse succeed ≡ byNumber (firstUnmet (more (tableAs own))) refuse (succeed (tableAs own))
+    asked-met z = rw enough (ap (λ (v : Verdict). byVerdict v more refuse succeed) (sym (read .verdict)) ∙ ap (λ (n : ℕ). byVerdict (ifMet n (tableAs own)) more refuse succeed) z)
 
 -- What was handed back tells what comes of the same questions otherwise --------------------------------------------------------
 module _ (file : List ℕ) (more : Table → List (ℕ × Bool)) (f : Table → List ℕ) (b : Bool) where

@@ -3,4 +3,5 @@
 -- which table is accepted, and what comes of a call's questions
 pub mod Questions
 -- inside: what the functions say
+pub mod Own
 pub mod Parts

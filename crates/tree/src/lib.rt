@@ -1,22 +1,19 @@
-// The tree of places as words, five a record: counted first, up to 1,025 nodes, and written once it is known to fit.
+// The tree of places as words, five a record: counted and written in one visit, up to 1,024 nodes.
 ghost use mathlib.Core.Path.{_≡_};
 ghost use mathlib.Core.Bool.{cond, _&&_};
 ghost use mathlib.Core.List.{List, [], _∷_, map};
 ghost use Prim.Native.Nat.{_+_, _-_, _*_, _≤_, _<_, max};
 ghost use lib.Dec.{eqb, ltb};
 ghost use lib.ListN.{length, getElem?, getD};
-ghost use Rattle.lists.specs.List.{all, upTo};
 ghost use Rattle.lists.specs.Written.{Wrote};
 ghost use Rattle.bitset.specs.Set.{contains, inserted};
 ghost use Rattle.planning.specs.Table.{jobOf, bodyOf};
 ghost use Rattle.planning.specs.Place.{methodsOf, longest as longestBody, oneIfAny, childCount, childLabel, rootPlace, nodes};
-ghost use Rattle.planning.specs.Record.{records};
 ghost use Rattle.planning.specs.Variable.{nodeVars};
 ghost use Rattle.table.specs.Layout.{taskFrom};
 ghost use Rattle.table.specs.Layout.{tableIn};
-ghost use Rattle.tree.specs.Words.{treeWords};
 ghost use Rattle.tree.specs.Visit.{membersIn, labelIn, someIn, Inside, Known, withTask, slotsOf, Small, VisitedPart, VisitedParts};
-ghost use Rattle.tree.specs.Visit.{VisitedTree, Counted, nodeTotal, Put};
+ghost use Rattle.tree.specs.Visit.{VisitedTree, Put};
 use table::Task;
 
 // What a node may hold: a word for its steps and a word for its jobs.
@@ -296,8 +293,9 @@ fn visit_children(
     visit_children(ws, out, d, left, parent, l, i + 1, m - 1)
 }
 
-// "Node 0 is the root, at depth 0, and may hold the root job."
-fn visit(ws: &[u64], out: &mut [u64]) -> Count
+// Visits the whole tree: its counts, and its records from the first word on, where it has at most 1,024 nodes. "Node 0 is the root, at depth 0,
+// and may hold the root job."
+pub fn build(ws: &[u64], out: &mut [u64]) -> Count
     requires { ⌜ Known (tableIn (now ws)) ⌝ }
     ensures { λ r. ⌜ VisitedTree (tableIn (now (ws .entry))) (now (out .entry)) (now (out .exit)) r ⌝ }
 {
@@ -311,37 +309,4 @@ fn visit(ws: &[u64], out: &mut [u64]) -> Count
         jobs: with(0, table::root(ws)),
     };
     visit_node(ws, out, none, table::depth(ws), 0, root)
-}
-
-// How many nodes, variables of nodes and slots the table's tree has; nothing is written.
-pub fn count_all(ws: &[u64]) -> Count
-    requires { ⌜ Known (tableIn (now ws)) ⌝ }
-    ensures { λ r. ⌜ Counted (tableIn (now (ws .entry))) r ⌝ }
-{
-    let mut none = [0u64; 1];
-    visit(ws, &mut none)
-}
-
-// Writes the table's records, and returns how many words that were.
-pub fn build(ws: &[u64], out: &mut [u64]) -> usize
-    requires { ⌜ Known (tableIn (now ws)) × (nodeTotal (tableIn (now ws)) ≤ 1024) × (5120 ≤ length (now out)) ⌝ }
-    ensures { λ r. ⌜ Wrote (now (out .entry)) 0 (treeWords (records (tableIn (now (ws .entry))))) (now (out .exit)) r ⌝ }
-{
-    let c = visit(ws, out);
-    5 * c.nodes
-}
-
-// Are the first n words of both the same?
-pub fn is_same(a: &[u64], b: &[u64], n: usize) -> bool
-    requires { ⌜ (n ≤ length (now a)) × (n ≤ length (now b)) ⌝ }
-    ensures { λ r. ⌜ r ≡ all (λ i. eqb (getD (now (a .entry)) i 0) (getD (now (b .entry)) i 0)) (upTo n) ⌝ }
-{
-    let mut i: usize = 0;
-    while i < n {
-        if a[i] != b[i] {
-            return false;
-        }
-        i += 1;
-    }
-    true
 }

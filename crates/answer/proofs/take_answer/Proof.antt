@@ -1,4 +1,4 @@
--- `answer::take_answer` meets its contract: the walk of `Records`, at this call's answer, core and words.
+-- `answer::take_answer` meets its contract: the walk of `Records`, at this call's answer, what is left to do and what is said.
 -- Assumes nothing.
 use mathlib.Core.Path.{_≡_, _∙_}
 use mir.Syntax.{Ty}
@@ -7,16 +7,19 @@ use denote.RattleType.{RattleType}
 use denote.Enum.Laws as EL
 use denote.Triple.Spec.{tripleOf}
 use denote.Triple.Table.{entered, cited}
-use Rattle.nodes.proofs.words_of.Symbol as words-def
-use Rattle.nodes.proofs.words_of.Met as words-thm
-use Rattle.answer.specs.Calls.{takenFrom, taking, valuesAfter}
-use Rattle.answer.proofs.Lent.{answer-seen}
-use Rattle.answer.proofs.Records.Shape.{Saying}
-use Rattle.answer.proofs.Records.Walk.{Words, Flat, reads-meet}
+use Rattle.nodes.proofs.is_same.Symbol as same-def
+use Rattle.nodes.proofs.is_same.Met as same-thm
+use Rattle.questions.proofs.Lent.{seen}
+use Rattle.questions.proofs.prepare.Symbol as prepare-def
+use Rattle.questions.proofs.prepare.Met as prepare-thm
+use Rattle.answer.specs.Calls.{enoughValues, takenFrom, taking, valuesAfter}
+use Rattle.answer.specs.Parts.{takingOf, valuesAfterOf}
+use Rattle.answer.proofs.Records.Shape.{Saying, SayingBy}
+use Rattle.answer.proofs.Records.Walk.{Prepares, Compares, Rest, reads-meet}
 use Rattle.answer.proofs.Taken as E
 use Rattle.answer.proofs.Taken.Laws as E′
-use Rattle.answer.proofs.flat.take_answer.Symbol as flat-def
-use Rattle.answer.proofs.flat.take_answer.Met as flat-thm
+use Rattle.answer.proofs.finish_taking.Symbol as rest-def
+use Rattle.answer.proofs.finish_taking.Met as rest-thm
 use Rattle.answer.proofs.take_answer.Key.{name as #key}
 use Rattle.answer.proofs.take_answer as fn
 use Rattle.answer.proofs.take_answer.Statement as stated
@@ -31,6 +34,9 @@ abbrev σ : Ty
 abbrev Says : Saying Q
 Says f ns x y r zs = (takenFrom r ≡ taking f ns x y) × (zs ≡ valuesAfter f ns x y)
 
+abbrev SaysBy : SayingBy Q
+SaysBy f k b x y r zs = (takenFrom r ≡ takingOf k b f x y) × (zs ≡ valuesAfterOf k b f x y)
+
 pub take-answer-spec : {M : Type 1} → stated.statement M
 unfolding code.routine tablesOf
 take-answer-spec 𝓤 H 𝓜 𝓖 𝓡 =
@@ -40,9 +46,11 @@ take-answer-spec 𝓤 H 𝓜 𝓖 𝓡 =
     let run = 𝓡 .run in
     entered 𝓤 H (tripleOf 𝓤 H A fn.signature (fn.spec 𝓤 H A mm run))
     (tables 𝓤 H 𝓜 𝓡 code.env .C) (tables 𝓤 H 𝓜 𝓡 code.env .Λ) #key code.function (code.unfolded 𝓤 H 𝓜 𝓡)
-    (reads-meet Q σ flat-def.name Says
+    (reads-meet Q σ rest-def.name Says SaysBy
     (λ r y i. EL.lawful E.the-type E′.the-laws 𝓤 H A W tt .typed r _ i .0)
-    (λ f ns x y r zs e. (e .0 ∙ answer-seen f ns x y .0, e .1 ∙ answer-seen f ns x y .1))
+    (λ f ns ws n b x y r zs p e h. (h .0 ∙ seen ns p _ _ _ e (enoughValues y), h .1 ∙ seen ns p _ _ _ e (enoughValues y)))
     𝓤 H A W mm run (tablesOf 𝓤 H 𝓜 (tables 𝓤 H 𝓜 𝓡 code.env))
-    (cited 𝓤 H (Words 𝓤 H A mm run) 𝓜 𝓡 code.env words-def.name words-def.routine code.calls-nodes·words-of (words-thm.met 𝓤 H 𝓜 𝓖 𝓡))
-    (cited 𝓤 H (Flat Q σ flat-def.name Says 𝓤 H A) 𝓜 𝓡 code.env flat-def.name flat-def.routine code.calls-answer·flat·take-answer (flat-thm.met 𝓤 H 𝓜 𝓖 𝓡)))
+    (cited 𝓤 H (Prepares 𝓤 H A mm run) 𝓜 𝓡 code.env prepare-def.name prepare-def.routine code.calls-questions·prepare (prepare-thm.met 𝓤 H 𝓜 𝓖 𝓡))
+    (cited 𝓤 H (Compares 𝓤 H A mm run) 𝓜 𝓡 code.env same-def.name same-def.routine code.calls-nodes·is-same (same-thm.met 𝓤 H 𝓜 𝓖 𝓡))
+    (cited 𝓤 H (Rest Q σ rest-def.name Says SaysBy 𝓤 H A) 𝓜 𝓡 code.env rest-def.name rest-def.routine code.calls-answer·finish-taking
+    (rest-thm.met 𝓤 H 𝓜 𝓖 𝓡)))

@@ -1,53 +1,42 @@
 use borrow.Author.Needs.{needs}
 use Rattle.encoding.proofs.count_clauses.Statement.{statement}
 use Rattle.encoding.proofs.count_clauses.Tie as tie
-use Rattle.table.specs.Layout.{tableIn}
-use Rattle.questions.proofs.Compared.{known-of, tree-front, index-front}
-use Rattle.encoding.proofs.Counted.{clauses-are}
-use lib.Dec.{lit≤}
-use Rattle.lists.proofs.Written.{wrote-count, wrote-room}
+use native.Mathlib.Omega.{arith}
+use Rattle.questions.proofs.Indexing.{index-most}
 
-slice-aggregate-build : tie.Need-slice-aggregate-build
-slice-aggregate-build c = search needs
+index-words-requires : tie.Need-index-words-requires
+index-words-requires c κs = search needs
 
-build-requires : tie.Need-build-requires
-build-requires c κs = (known-of (c .before .before .pre), c .before .before .pre .few-nodes, lit≤ tt)
+slice-aggregate-count-by : tie.Need-slice-aggregate-count-by
+slice-aggregate-count-by c = search needs
 
-array-share-prefix-words : tie.Need-array-share-prefix-words
-array-share-prefix-words c = wrote-room (c .before .build .ensures)
-
-slice-aggregate-fill : tie.Need-slice-aggregate-fill
-slice-aggregate-fill c = wrote-count (c .before .before .build .ensures)
-
-slice-aggregate-fill-2 : tie.Need-slice-aggregate-fill-2
-slice-aggregate-fill-2 c = search needs
-
-fill-requires : tie.Need-fill-requires
-fill-requires c κs = (record { accepted = c .before .before .before .before .before .before .pre; tree = tree-front (tableIn (c .before .before .before .before .before .before .args .ws .now)) (c .before .before .before .before .before .before .pre) (c .before .before .before .build .ensures) }, lit≤ tt)
-
-array-share-prefix-ix : tie.Need-array-share-prefix-ix
-array-share-prefix-ix c = wrote-room (c .before .fill .ensures)
-
-slice-aggregate-count-all : tie.Need-slice-aggregate-count-all
-slice-aggregate-count-all c = wrote-count (c .before .before .fill .ensures)
-
-count-all-requires : tie.Need-count-all-requires
-count-all-requires c κs = index-front (tableIn (c .before .before .before .before .before .before .before .before .before .args .ws .now)) (c .before .before .before .before .before .before .before .before .before .pre) (c .before .before .fill .ensures)
+count-by-requires : tie.Need-count-by-requires
+count-by-requires c κs =
+    let pre = c .before .before .before .before .before .pre in
+    let index-words = c .before .before .index-words in
+    let if1 = c .before .if1 in
+    (pre, omega (arith, index-words .ensures, if1 .taken))
 
 returns : tie.Need-returns
-returns c = clauses-are (tableIn (c .before .before .before .before .before .before .before .before .before .before .args .ws .now)) (c .count-all .ensures .0)
+returns c = search needs
+
+slice-aggregate-count-by-2 : tie.Need-slice-aggregate-count-by-2
+slice-aggregate-count-by-2 c = search needs
+
+count-by-requires-2 : tie.Need-count-by-requires-2
+count-by-requires-2 c κs = (c .before .before .before .before .before .pre, index-most (c .before .before .before .before .before .pre))
+
+returns-2 : tie.Need-returns-2
+returns-2 c = search needs
 
 pub count-clauses-spec : {M : Type 1} → statement M
 count-clauses-spec =
     tie.close
     (tie.spec
-    slice-aggregate-build
-    build-requires
-    array-share-prefix-words
-    slice-aggregate-fill
-    slice-aggregate-fill-2
-    fill-requires
-    array-share-prefix-ix
-    slice-aggregate-count-all
-    count-all-requires
-    returns)
+    index-words-requires
+    slice-aggregate-count-by
+    count-by-requires
+    returns
+    slice-aggregate-count-by-2
+    count-by-requires-2
+    returns-2)
