@@ -6,7 +6,7 @@ use Prim.Native.Nat.{ℕ, _*_, _≤_}
 use native.Mathlib.Omega.{arith}
 use lib.ListN.{length, getD, take}
 use Rattle.planning.specs.Table.{Table}
-use Rattle.planning.specs.Place.{rootPlace, nodes}
+use Rattle.planning.specs.Place.{nodes}
 use Rattle.planning.specs.Record.{records}
 use Rattle.planning.specs.Variable.{variables}
 use Rattle.table.specs.Layout.{namePartsIn}

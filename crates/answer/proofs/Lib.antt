@@ -14,5 +14,4 @@ pub mod ShowingAnswer
 pub mod Loops
 pub mod Outcomes
 -- the walk that the calls over records share
--- the walk that the calls over records share
 pub mod Records

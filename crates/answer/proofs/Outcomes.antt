@@ -17,9 +17,9 @@ use Rattle.answer.specs.Calls.{enoughValues, enoughListing, takenFrom, a
 use Rattle.answer.specs.Calls.{showingAnswer, answerListingAfter}
 use Rattle.answer.specs.Parts.{Took, questionsOfValues, Showed, ShowedAnswer, takingOf, valuesAfterOf, showingOf, listingAfterOf}
 use Rattle.answer.specs.declared.Taken.{Taken}
-use Rattle.answer.specs.declared.Taken.the-variants.{Refused as TakeRefused}
 use Rattle.answer.specs.declared.Listed.{Listed}
 use Rattle.answer.specs.declared.Listed.the-variants.{Refused}
+use Rattle.answer.specs.declared.Taken.the-variants.{Refused as TakeRefused}
 
 -- the number of the question, as the code has it
 met : {q k : ℕ} → q ≡ k → q ≡ 0 → k ≡ 0

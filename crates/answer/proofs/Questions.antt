@@ -62,9 +62,6 @@ module _ (qs : List (ℕ × Bool)) where
   pub behind-10 : {a : Bool} → a ≡ true → firstUnmet ((10, a) ∷ qs) ≡ firstUnmet qs
   behind-10 p = rw p
 
-  pub unmet-10 : {a : Bool} → a ≡ false → firstUnmet ((10, a) ∷ qs) ≡ 10
-  unmet-10 p = rw p
-
   pub tenth-met : (a : Bool) → firstUnmet ((10, a) ∷ qs) ≡ 0 → (a ≡ true) × (firstUnmet qs ≡ 0)
   tenth-met false h = absurd (omega arith)
   tenth-met true h = (refl, h)

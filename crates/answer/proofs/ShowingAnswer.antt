@@ -17,7 +17,7 @@ use Rattle.table.specs.Layout.{namePartsIn}
 use Rattle.solver.specs.Scan.{Heard}
 use Rattle.listing.specs.Listing.{Names, shownNames}
 use Rattle.listing.specs.Walk.{walked, valueOf}
-use Rattle.questions.specs.Questions.{namesOf, taken}
+use Rattle.questions.specs.Questions.{taken}
 use Rattle.questions.specs.Own.{tableOf, tableAs, Owned}
 use Rattle.answer.specs.Calls.{questionsOfAnswer, shownAnswer}
 use Rattle.answer.specs.Parts.{ShowedAnswer}

@@ -36,12 +36,12 @@ pub record ShowedAnswer (file : List ℕ) (T : Table) (answer text text′ : Lis
 
 -- The calls by how many records were lent and whether they are the table's own ------------------------------------------------------
 abbrev pub takingOf : (lent : ℕ) (same : Bool) (file answer values : List ℕ) → HandedBack
-takingOf lent same file answer values =
-    askedOf lent same (enoughValues values) file (questionsOfAnswer answer) turnedDown (λ T. taken (variables T ∷ []))
+takingOf k same file answer values =
+    askedOf k same (enoughValues values) file (questionsOfAnswer answer) turnedDown (λ T. taken (variables T ∷ []))
 
 abbrev pub valuesAfterOf : (lent : ℕ) (same : Bool) (file answer values : List ℕ) → List ℕ
-valuesAfterOf lent same file answer values =
-    askedOf lent same (enoughValues values) file (questionsOfAnswer answer) (λ n. values) (λ T. bits (answered T answer) ++ drop (variables T) values)
+valuesAfterOf k same file answer values =
+    askedOf k same (enoughValues values) file (questionsOfAnswer answer) (λ n. values) (λ T. bits (answered T answer) ++ drop (variables T) values)
 
 abbrev pub showingOf : (lent : ℕ) (same : Bool) (file values text : List ℕ) → HandedBack
 showingOf k same file values text =

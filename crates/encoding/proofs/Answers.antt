@@ -1,6 +1,6 @@
 -- What each call answers, question by question.
 -- By the definition of the calls.
-use mathlib.Core.Path.{_≡_, refl, sym, ap, ap₂, _∙_}
+use mathlib.Core.Path.{_≡_, refl, sym, ap₂, _∙_}
 use mathlib.Core.Bool.{Bool, true, false, not, _&&_}
 use mathlib.Core.List.{List, [], _∷_, _++_}
 use Prim.Native.Nat.{ℕ, _+_, _≤_, _<_}
@@ -17,7 +17,7 @@ use Rattle.planning.specs.Clause.{formula}
 use Rattle.planning.specs.Text.{written, bytesUsed, nextLine}
 use Rattle.text.specs.Lines.{PutText}
 use Rattle.text.specs.declared.Lines.{Lines}
-use Rattle.questions.specs.Questions.{HandedBack, turnedDown, taken, byNumber}
+use Rattle.questions.specs.Questions.{HandedBack, turnedDown, taken}
 use Rattle.questions.specs.Own.{questionAt, nodesAt, variablesAt, tableAs, Owned, IsRead}
 use Rattle.questions.proofs.Asked.{asked-short, asked-unmet, asked-met}
 use Rattle.encoding.specs.Calls.{enoughText, textFrom, checking, questionsOfLine, writingFormula, formulaAfter}

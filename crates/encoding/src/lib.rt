@@ -2,10 +2,7 @@
 // back the number of the first that is not met, or its values; on a refusal nothing lent has changed. `own` is what `questions` prepares: the
 // table with its own records and its counts.
 ghost use mathlib.Core.Path.{_≡_};
-ghost use mathlib.Core.Bool.{_&&_};
-ghost use mathlib.Core.List.{[], _∷_};
 ghost use Prim.Native.Nat.{_≤_};
-ghost use lib.Dec.{leb};
 ghost use lib.ListN.{length};
 ghost use Rattle.planning.specs.Clause.{formula};
 ghost use Rattle.index.specs.Index.{indexOf};

@@ -5,10 +5,8 @@ use mathlib.Core.List.{List, [], _∷_, _++_, append-assoc}
 use Prim.Native.Nat.{ℕ, suc, _+_, _*_, _≤_}
 use native.Mathlib.Omega.{arith}
 use lib.ListN.{length, getD, length-append}
-use Rattle.lists.specs.List.{concatMap, upTo}
+use Rattle.lists.specs.List.{concatMap}
 use Rattle.lists.specs.Written.{Wrote}
-use Rattle.lists.proofs.Member.{length-filter}
-use Rattle.lists.proofs.Number.{length-from}
 use Rattle.lists.proofs.Written.{wrote-append, wrote-same}
 use Rattle.planning.specs.Table.{Table}
 use Rattle.planning.specs.Place.{methodsOf}
@@ -22,8 +20,7 @@ use Rattle.index.specs.Index.{wordOf, nodeWords, meanings, slotNodes, source, i
 use Rattle.index.proofs.Known.{nodes-count, nodes-end}
 use Rattle.index.proofs.Looked.{slots-long}
 use Rattle.indexing.specs.Stands.{Stands, AtNode, node, setWords, countWords, childWords}
-use Rattle.indexing.proofs.Nodes.{node-most, variables-most, children-word, steps-in, jobs-in, methods-in, steps-same, step-count, job-count, method-count}
-use Rattle.indexing.proofs.Loops.{isSlot, slots-picked}
+use Rattle.indexing.proofs.Nodes.{children-word, steps-in, jobs-in, methods-in, steps-same, step-count, job-count, method-count}
 
 -- A node -----------------------------------------------------------------------------------------------------------------------------
 module _ {T : Table} {ws : List ℕ} {n : ℕ} (t : AtNode T ws n) where

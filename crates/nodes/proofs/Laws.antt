@@ -1,4 +1,5 @@
--- Records laid from words, and words gathered from records, one record at a time.
+-- Records laid from words.
+-- One record at a time.
 use mathlib.Core.Path.{_≡_, refl, sym, ap, _∙_}
 use mathlib.Core.List.{List, [], _∷_, map, _++_, map-append}
 use Prim.Native.Nat.{ℕ, zero, suc, _+_, _-_, _≤_, _<_}

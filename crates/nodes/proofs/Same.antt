@@ -1,4 +1,5 @@
--- Records are the same if all their words are, and records against words, one record at a time.
+-- Records beside those kept in words.
+-- One record at a time.
 use mathlib.Core.Path.{_≡_, refl, sym, ap, _∙_}
 use mathlib.Core.Bool.{Bool, true, _&&_}
 use mathlib.Core.List.{List, [], _∷_, _++_}
@@ -10,8 +11,7 @@ use Rattle.lists.specs.List.{all, upTo}
 use Rattle.lists.proofs.Bool.{eqb-same, and-on}
 use Rattle.lists.proofs.Member.{all-append}
 use Rattle.nodes.specs.Nodes.{recordAt, sameTo}
-use Rattle.nodes.specs.Tree.{blank}
-use Rattle.nodes.specs.Tree.{sameNode}
+use Rattle.nodes.specs.Tree.{blank, sameNode}
 use Rattle.nodes.specs.declared.Node.{Node}
 use Rattle.nodes.proofs.Laws.{from-snoc}
 

@@ -12,8 +12,10 @@ ghost use Rattle.io.specs.Counts.{Counts};
 ghost use Rattle.programs.specs.Output.{refusedLine, formulaLines, procedureText};
 ghost use Rattle.programs.specs.Parts.{PartOf, roomOf};
 ghost use Rattle.programs.specs.Room.{fileRoom, textRoom};
+use answer::LISTING_LEAST;
 use answer::Listed;
 use encoding::Checked;
+use encoding::TEXT_LEAST;
 use encoding::Text;
 use libc::STDOUT_FILENO;
 
@@ -22,11 +24,6 @@ pub const FILE_ROOM: usize = 65537;
 
 // So long that a formula of some megabytes takes a handful of parts.
 pub const TEXT_ROOM: usize = 1048576;
-
-// What a text call and the listing want to be lent.
-const TEXT_LEAST: usize = 1024;
-
-const LISTING_LEAST: usize = 24576;
 
 // Reading ------------------------------------------------------------------------------------------------------------------------
 // Left free of a buffer: its contents.

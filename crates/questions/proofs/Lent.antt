@@ -1,13 +1,12 @@
 -- Lent records beside the table's own, which stand in words: question 10, and the records laid.
 -- By what was prepared, question by question.
 use mathlib.Core.Path.{_≡_, refl, sym, ap, ap₂, _∙_}
-use mathlib.Core.Bool.{Bool, true, false, cond, _&&_}
-use mathlib.Core.List.{List, [], _∷_, map, _++_}
+use mathlib.Core.Bool.{Bool, cond, _&&_}
+use mathlib.Core.List.{List, [], _∷_, _++_}
 use mathlib.Core.Logic.{_⊎_, inl, inr}
 use Prim.Native.Nat.{ℕ, zero, suc, _+_, _*_, _≤_, _<_}
 use native.Mathlib.Omega.{arith}
-use lib.Dec.{leb}
-use lib.ListN.{length, getD, take, drop, length-map, take-append-drop}
+use lib.ListN.{length, getD, drop, length-map, take-append-drop}
 use Rattle.lists.specs.List.{all, from, upTo}
 use Rattle.lists.specs.Question.{firstUnmet}
 use Rattle.lists.proofs.Bool.{leb-in, leb-no}
@@ -23,7 +22,7 @@ use Rattle.nodes.specs.declared.Node.{Node}
 use Rattle.nodes.proofs.Laws.{laid-none}
 use Rattle.nodes.proofs.Words.{nodes-back, laid-back}
 use Rattle.questions.specs.Questions.{Verdict, unmet, accepted, ifMet, accepting, byNumber, byVerdict, asked}
-use Rattle.questions.specs.Own.{questionAt, tableAs, Owned, IsRead, IsPrepared}
+use Rattle.questions.specs.Own.{questionAt, tableAs, Owned, IsPrepared}
 use Rattle.questions.specs.Parts.{askedOf}
 use Rattle.questions.proofs.Compared.{tree-words}
 

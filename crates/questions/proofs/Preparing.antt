@@ -8,7 +8,7 @@ use Prim.Native.Nat.{ℕ, zero, suc, _+_, _*_, _≤_, _<_}
 use native.Mathlib.Nat.{mul-le-mul}
 use native.Mathlib.Omega.{arith}
 use lib.Dec.{leb}
-use lib.ListN.{length, getD, take, drop, set, length-append, length-set}
+use lib.ListN.{length, getD, take, set, length-append, length-set}
 use lib.Seq.{take-append-seam, getD-append-add, getD-set-same}
 use Rattle.lists.specs.Question.{firstUnmet}
 use Rattle.lists.specs.Written.{Wrote}
@@ -18,18 +18,17 @@ use Rattle.lists.proofs.Written.{wrote-front, wrote-length}
 use Rattle.planning.specs.Table.{Table, Limits}
 use Rattle.planning.specs.Place.{rootPlace, nodes}
 use Rattle.planning.specs.Record.{records}
-use Rattle.planning.specs.Variable.{variables, nodeVars, slots}
+use Rattle.planning.specs.Variable.{variables, slots}
 use Rattle.planning.specs.Accepted.{Accepted}
-use Rattle.table.specs.Layout.{tableWords, tableIn, namePartsIn, Reads}
-use Rattle.table.specs.Reading.{reading}
+use Rattle.table.specs.Layout.{tableWords, tableIn, Reads}
 use Rattle.table.specs.declared.Outcome.{Outcome}
 use Rattle.table.proofs.Promised.{promises}
 use Rattle.tree.specs.Visit.{Known, Counted, VisitedTree}
 use Rattle.tree.specs.Words.{treeWords}
 use Rattle.tree.specs.declared.Count.{Count}
 use Rattle.tree.proofs.Whole.{counted, built}
-use Rattle.questions.specs.Questions.{met8, met9, unmet, accepted, ifMet, afterReading, accepting, namesAfter, namesOf}
-use Rattle.questions.specs.Own.{tableAt, questionAt, nodesAt, slotsAt, nodeVarsAt, variablesAt, ownWords, tableOf, tableAs, Owned, IsRead, IsPrepared}
+use Rattle.questions.specs.Questions.{met8, met9, unmet, ifMet, afterReading, accepting, namesAfter}
+use Rattle.questions.specs.Own.{tableAt, questionAt, ownWords, tableOf, tableAs, Owned, IsPrepared}
 use Rattle.questions.specs.Parts.{questions8and9}
 use Rattle.questions.proofs.Words.{wrote-slice, wrote-at, wrote-before}
 

@@ -57,7 +57,8 @@ pub record Owned (file own : List ℕ) : Type 0 where
   -- no node has more than one slot and 256 variables
   pub small : (getD own slotsAt 0 ≤ getD own nodesAt 0) × (getD own nodeVarsAt 0 ≤ 256 * getD own nodesAt 0)
 
--- questions 2 to 9 were put. Left free: all words but the number of the question, where one is not met
+-- questions 2 to 9 were put. Left free: where one is not met all words but its number; else the words behind the last record, those of the table
+-- that no look-up reads, and all past `ownWords`
 pub record IsRead (file own : List ℕ) : Type 0 where
   pub long : ownWords ≤ length own
   pub verdict : ifMet (getD own questionAt 0) (tableAs own) ≡ accepting file

@@ -155,7 +155,7 @@ fn counts(own: &[u64]) -> Count
     }
 }
 
-// The table, and its records.
+// The words of the table.
 pub fn table_of<'a>(own: &'a [u64]) -> &'a [u64]
     requires { ⌜ ownWords ≤ length (now own) ⌝ }
     ensures { λ r. ⌜ now r ≡ tableOf (now (own .entry)) ⌝ }

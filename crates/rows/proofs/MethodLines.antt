@@ -18,7 +18,7 @@ use Rattle.grammar.specs.Line.{nameIn, bodyIn}
 use Rattle.outline.specs.Names.{numberOf}
 use Rattle.outline.specs.Questions.{short}
 use Rattle.rows.specs.Uses.{usesTasks}
-use Rattle.rows.specs.Words.{methodWords, stored, Kept}
+use Rattle.rows.specs.Words.{methodWords, Kept}
 use Rattle.rows.specs.Answers.{BodyPut, MethodStands, MethodPut, MethodsPut}
 use Rattle.rows.proofs.Words.{length-stored, kept-all, kept-stored, stored-in, kept-both, pair-other, pair-first, pair-second}
 use Rattle.rows.proofs.StepLines.{Telling, telling-first, telling-more, telling-done}

@@ -47,7 +47,7 @@ pub record StepMeans (n : ℕ) (facts : List Name) (l : List ℕ) (ok : Bool) (x
   pub step : usesFacts facts l ≡ true → stepWith x y z ≡ readStep facts l
   pub wide : (length x ≡ n) × (length y ≡ n) × (length z ≡ n)
 
--- an S line put from the place k on, o before and o′ after. Left free: the words, where question 7 is not met
+-- an S line put from the place k on, o before and o′ after. Left free: the words, where question 7 is not met, and all behind the step's
 pub record StepPut (facts : List Name) (l : List ℕ) (k : ℕ) (o o′ : List ℕ) (ok : Bool) : Type 0 where
   pub told : ok ≡ usesFacts facts l
   pub kept : Kept k o o′

@@ -1,5 +1,5 @@
--- Inside the reader, nothing to believe: the words that a set of facts, a step and a method are kept as, from a place on. Past the last word of
--- a list there are zeros. Assumes nothing.
+-- The words that a set of facts, a step and a method are kept as, from a place on; where they stand in a table is crate `table`'s specs/Layout.
+-- Past the last word of a list there are zeros. Assumes nothing.
 use mathlib.Core.Path.{_≡_}
 use mathlib.Core.Bool.{cond}
 use mathlib.Core.List.{List, [], _∷_, map}
@@ -42,7 +42,7 @@ sizeAt ws p = min (getD ws (p + 1) 0) mostInBody
 abbrev pub methodAt : (n : ℕ) → List ℕ → ℕ → Method
 methodAt n ws p = record { of = getD ws p 0; body = map (λ j. taskAt n (getD ws (p + 2 + j) 0)) (upTo (sizeAt ws p)) }
 
--- What is written --------------------------------------------------------------------------------------------------------------
+-- Inside the reader, nothing to believe: what is written ------------------------------------------------------------------------
 -- l with xs stored from the place k on
 abbrev pub stored : List ℕ → ℕ → List ℕ → List ℕ
 stored l k [] = l

@@ -13,7 +13,7 @@ use Rattle.lines.specs.Parts.{Piece, noLine, linesOf}
 use Rattle.lines.specs.Cut.{linesFrom}
 use Rattle.outline.specs.Sections.{Sections, sections}
 use Rattle.outline.specs.Part.{partOf}
-use Rattle.table.specs.Reading.{NameParts, namePartsOf}
+use Rattle.table.specs.Reading.{namePartsOf}
 use Rattle.outline.specs.Index.{Indexed}
 use Rattle.outline.proofs.Questions.{lines-facts, lines-jobs}
 use Rattle.lists.proofs.Order.{le-or-lt}

@@ -5,7 +5,6 @@ use mathlib.Core.List.{List, [], _∷_, _++_}
 use Prim.Native.Nat.{ℕ}
 use lib.ListN.{length, replicate}
 use Rattle.planning.specs.Table.{Step, Method, step, job, noStep, stepOf, bodyOf}
-use Rattle.lines.specs.Part.{Part}
 use Rattle.table.specs.Layout.{tableWords, tableIn, namePartsIn}
 
 -- 3 facts, 2 steps, 2 jobs, 1 method; root 1, depth 4; facts 0 and 2 at the start

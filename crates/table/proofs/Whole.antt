@@ -34,7 +34,7 @@ use Rattle.bitset.specs.Set.{members}
 use Rattle.lists.proofs.Place.{listed, map-upTo, all-at}
 use Rattle.lines.specs.Parts.{noLine}
 use Rattle.outline.specs.Names.{step}
-use Rattle.table.specs.Layout.{startAt, stepsAt, methodsAt, partsAt, tableWords, factsIn, stepsIn, jobsIn, methodsIn}
+use Rattle.table.specs.Layout.{startAt, stepsAt, methodsAt, tableWords, factsIn, stepsIn, jobsIn, methodsIn}
 use Rattle.table.specs.Layout.{tableIn, namePartsIn, noTable, readingOf, Reads}
 use Rattle.table.specs.Code.{front, NamesPut}
 use Rattle.table.proofs.Parts.{names-held}

@@ -14,7 +14,7 @@ use Rattle.table.specs.Layout.{stepsAt, methodsAt, partsAt, stepsIn, met
 abbrev pub front : (facts steps jobs methods root depth : ℕ) (start : List ℕ) → List ℕ
 front a b c d e f ws = (a ∷ b ∷ c ∷ d ∷ e ∷ f ∷ []) ++ ws
 
--- the first n names
+-- the first n names. Left free: the words behind them
 pub record NamesPut (starts sizes : List ℕ) (n : ℕ) (o o′ : List ℕ) : Type 0 where
   pub kept : Kept partsAt o o′
   pub name : (i : ℕ) → i < n → _≡_ {A = Part} (partAt o′ i) (record { start = getD starts i 0; size = getD sizes i 0 })

@@ -49,7 +49,7 @@ abbrev pub methodsIn : List ℕ → ℕ
 methodsIn ws = min (getD ws 3 0) mostMethods
 
 -- Left free by the read: words that no look-up reads, which are those of steps, methods and names past the last, and of places behind a body's
--- last task
+-- last task; and of a count at its limit the word itself, of which the look-ups see no more than the limit
 unfoldable pub tableIn : List ℕ → Table
 tableIn ws = record {
   facts = factsIn ws;

@@ -228,7 +228,7 @@ pub fn clears(ws: &[u64], s: usize) -> FactSet
     step_set(ws, s, 2)
 }
 
-// Word k of method m, the last of its words being that of its body's last place; 0 where there is no such method.
+// Word k of those of method m; 0 where there is no such method.
 fn method_word(ws: &[u64], m: usize, k: usize) -> u64
     requires { ⌜ k ≤ tableWords ⌝ }
     ensures { λ r. ⌜ r ≡ methodWord (now (ws .entry)) m k ⌝ }

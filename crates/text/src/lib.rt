@@ -4,7 +4,6 @@ ghost use Prim.Native.Nat.{_+_, _≤_, _<_};
 ghost use lib.ListN.{length};
 ghost use Rattle.lists.specs.Written.{Wrote};
 ghost use Rattle.planning.specs.Clause.{formula};
-ghost use Rattle.planning.specs.Text.{headerLine};
 ghost use Rattle.planning.specs.Variable.{variables as variablesOf};
 ghost use Rattle.table.specs.Layout.{tableIn};
 ghost use Rattle.shape.specs.Shape.{Indexed};

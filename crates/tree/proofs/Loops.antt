@@ -8,15 +8,11 @@ use Prim.Native.Nat.{ℕ, zero, suc, _+_, _-_, _*_, _%_, _^_, _≤_, _<_, max}
 use native.Mathlib.Nat.{mod-eq-of-lt}
 use native.Mathlib.Omega.{arith}
 use lib.Dec.{eqb, ltb}
-use lib.ListN.{length, getD, getElem?}
+use lib.ListN.{length, getElem?}
 use borrow.Author.Tests.{lt-ltb, le-ltb}
-use Rattle.lists.specs.List.{all, from, upTo}
 use Rattle.lists.specs.Written.{Wrote}
-use Rattle.lists.proofs.Bool.{clash, false-of, eqb-sound, eqb-same, eqb-other}
-use Rattle.lists.proofs.Member.{all-out, all-append}
-use Rattle.lists.proofs.Number.{upTo-in}
+use Rattle.lists.proofs.Bool.{clash, eqb-same, eqb-other}
 use Rattle.lists.proofs.Order.{le-or-lt, ne-lt}
-use Rattle.lists.proofs.Place.{from-add}
 use Rattle.lists.proofs.Written.{wrote-append, wrote-same}
 use Rattle.bitset.specs.Set.{contains, setOf}
 use Rattle.bitset.proofs.Promises.{promises}
@@ -124,29 +120,6 @@ module _ (T : Table) (l : Label) (known : Known T) {n : ℕ} (e : n ≡ longest 
       let p : 1 ≤ n = ne-lt (omega arith) (λ q. u (sym q)) in
       let q : n ≡ childCount T (labelIn l) = omega (arith, e, any-one (membersIn (l .steps))) in
       (q, omega (arith, short))
-
--- Words compared -----------------------------------------------------------------------------------------------------------------
-pub record Alike (a b : List ℕ) (n i : ℕ) : Type 0 where
-  pub at : i ≤ n
-  pub so-far : all (λ k. eqb (getD a k 0) (getD b k 0)) (upTo i) ≡ true
-
-pub alike-again : {a b : List ℕ} {n i : ℕ} → Alike a b n i → i < n → getD a i 0 ≡ getD b i 0 → Alike a b n (i + 1)
-alike-again {a} {b} {n} {i} k h e =
-    let z : 0 + i ≡ i = omega arith in
-    record {
-      at = omega arith;
-      so-far = ap (all (λ k. eqb (getD a k 0) (getD b k 0))) (from-add 0 i 1)
-          ∙ all-append (λ k. eqb (getD a k 0) (getD b k 0)) (upTo i) (from (0 + i) 1)
-          ∙ rw (k .so-far, z, e, eqb-same (getD b i 0));
-    }
-
-pub alike-not : (a b : List ℕ) (n i : ℕ) → i < n → (getD a i 0 ≡ getD b i 0 → ⊥) → false ≡ all (λ k. eqb (getD a k 0) (getD b k 0)) (upTo n)
-alike-not a b n i h u =
-    let p : ℕ → Bool = λ k. eqb (getD a k 0) (getD b k 0) in
-    sym (false-of (all p (upTo n)) (λ t. u (eqb-sound (getD a i 0) (getD b i 0) (all-out p (upTo n) t i (upTo-in i n h)))))
-
-pub alike-all : {a b : List ℕ} {n i : ℕ} → Alike a b n i → n ≤ i → true ≡ all (λ k. eqb (getD a k 0) (getD b k 0)) (upTo n)
-alike-all {a} {b} {n} {i} k h = let e : i ≡ n = omega (arith, k .at) in sym (rw e at (k .so-far))
 
 -- A record put -------------------------------------------------------------------------------------------------------------------
 pub put-none : {at d p n s j : ℕ} {o : List ℕ} → length o < 5 * at + 5 → Put at d p n s j o o

@@ -1,18 +1,16 @@
 // The tree of places as words, five a record: counted and written in one visit, up to 1,024 nodes.
 ghost use mathlib.Core.Path.{_≡_};
 ghost use mathlib.Core.Bool.{cond, _&&_};
-ghost use mathlib.Core.List.{List, [], _∷_, map};
+ghost use mathlib.Core.List.{[], _∷_};
 ghost use Prim.Native.Nat.{_+_, _-_, _*_, _≤_, _<_, max};
 ghost use lib.Dec.{eqb, ltb};
 ghost use lib.ListN.{length, getElem?, getD};
 ghost use Rattle.lists.specs.Written.{Wrote};
 ghost use Rattle.bitset.specs.Set.{contains, inserted};
 ghost use Rattle.planning.specs.Table.{jobOf, bodyOf};
-ghost use Rattle.planning.specs.Place.{methodsOf, longest as longestBody, oneIfAny, childCount, childLabel, rootPlace, nodes};
-ghost use Rattle.planning.specs.Variable.{nodeVars};
-ghost use Rattle.table.specs.Layout.{taskFrom};
-ghost use Rattle.table.specs.Layout.{tableIn};
-ghost use Rattle.tree.specs.Visit.{membersIn, labelIn, someIn, Inside, Known, withTask, slotsOf, Small, VisitedPart, VisitedParts};
+ghost use Rattle.planning.specs.Place.{methodsOf, longest as longestBody, childCount, childLabel, nodes};
+ghost use Rattle.table.specs.Layout.{taskFrom, tableIn};
+ghost use Rattle.tree.specs.Visit.{membersIn, labelIn, someIn, Inside, Known, withTask, Small, VisitedPart, VisitedParts};
 ghost use Rattle.tree.specs.Visit.{VisitedTree, Put};
 use table::Task;
 

@@ -34,7 +34,7 @@ pub fn put_bytes<'a, 'b>(out: &'a mut [u8], at: usize, bytes: &'b [u8]) -> usize
 }
 
 // A number's digits.
-pub fn decimal_size(n: u64) -> usize
+fn decimal_size(n: u64) -> usize
     ensures { λ r. ⌜ r ≡ length (decimal n) ⌝ }
 {
     if n < 10 {
@@ -101,7 +101,7 @@ fn put_literal(out: &mut [u8], at: usize, code: u64) -> usize
 }
 
 // A clause's line: its literals, a 0 and LF.
-pub fn clause_size(lits: &[u64]) -> usize
+fn clause_size(lits: &[u64]) -> usize
     requires { ⌜ length (now lits) ≤ 4096 ⌝ }
     ensures { λ r. ⌜ r ≡ length (clauseLine (clauseIn (now (lits .entry)))) ⌝ }
 {

@@ -1,12 +1,7 @@
 use borrow.Author.Needs.{needs}
 use Rattle.rows.proofs.put_method.Statement.{statement}
 use Rattle.rows.proofs.put_method.Tie as tie
-use Rattle.grammar.proofs.field_at.Reads as field-at-reads
-use Rattle.outline.proofs.look_up.Reads as look-up-reads
-use Rattle.rows.proofs.both.Reads as both-reads
-use Rattle.rows.proofs.put_body.Reads as put-body-reads
 use Prim.Native.Nat.{_-_}
-use mathlib.Core.Path.{_∙_}
 use native.Mathlib.Omega.{arith}
 use lib.ListN.{length-set}
 use Rattle.lists.proofs.Order.{le-trans}

@@ -1,8 +1,6 @@
 use borrow.Author.Needs.{needs}
 use Rattle.rows.proofs.put_step.Statement.{statement}
 use Rattle.rows.proofs.put_step.Tie as tie
-use Rattle.rows.proofs.put_set.Reads as put-set-reads
-use Rattle.rows.proofs.step_sets.Reads as step-sets-reads
 use Rattle.rows.proofs.StepLines.{step-put}
 
 step-sets-requires : tie.Need-step-sets-requires

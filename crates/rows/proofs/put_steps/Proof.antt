@@ -1,9 +1,6 @@
 use borrow.Author.Needs.{needs}
 use Rattle.rows.proofs.put_steps.Statement.{statement}
 use Rattle.rows.proofs.put_steps.Tie as tie
-use Rattle.lines.proofs.cut.Reads as cut-reads
-use Rattle.rows.proofs.both.Reads as both-reads
-use Rattle.rows.proofs.put_step.Reads as put-step-reads
 use Prim.Native.Nat.{_-_}
 use native.Mathlib.Omega.{arith}
 use Rattle.lists.proofs.Order.{le-refl}

@@ -1,7 +1,6 @@
 use borrow.Author.Needs.{needs}
 use Rattle.table.proofs.body_size.Statement.{statement}
 use Rattle.table.proofs.body_size.Tie as tie
-use Rattle.table.proofs.method_word.Reads as method-word-reads
 use Rattle.planning.specs.Table.{mostInBody}
 use Rattle.table.proofs.Lookup.{count-low, count-high, size-told}
 

@@ -1,10 +1,6 @@
 use borrow.Author.Needs.{needs}
 use Rattle.table.proofs.body_task.Statement.{statement}
 use Rattle.table.proofs.body_task.Tie as tie
-use Rattle.table.proofs.body_size.Reads as body-size-reads
-use Rattle.table.proofs.count.Reads as count-reads
-use Rattle.table.proofs.method_word.Reads as method-word-reads
-use Rattle.table.proofs.task_at.Reads as task-at-reads
 use native.Mathlib.Omega.{arith}
 use Rattle.table.proofs.Lookup.{task-none, task-place, task-there}
 

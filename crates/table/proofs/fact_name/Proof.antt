@@ -1,8 +1,6 @@
 use borrow.Author.Needs.{needs}
 use Rattle.table.proofs.fact_name.Statement.{statement}
 use Rattle.table.proofs.fact_name.Tie as tie
-use Rattle.table.proofs.count.Reads as count-reads
-use Rattle.table.proofs.name_at.Reads as name-at-reads
 use native.Mathlib.Omega.{arith}
 use Rattle.table.proofs.Lookup.{fact-named}
 

@@ -1,7 +1,6 @@
 use borrow.Author.Needs.{needs}
 use Rattle.table.proofs.job_of.Statement.{statement}
 use Rattle.table.proofs.job_of.Tie as tie
-use Rattle.table.proofs.method_word.Reads as method-word-reads
 use Rattle.table.proofs.Lookup.{job-told}
 
 method-word-requires : tie.Need-method-word-requires

@@ -1,8 +1,6 @@
 use borrow.Author.Needs.{needs}
 use Rattle.table.proofs.method_word.Statement.{statement}
 use Rattle.table.proofs.method_word.Tie as tie
-use Rattle.table.proofs.count.Reads as count-reads
-use Rattle.table.proofs.word.Reads as word-reads
 use native.Mathlib.Omega.{arith}
 use Rattle.table.proofs.Lookup.{word-there, word-none}
 

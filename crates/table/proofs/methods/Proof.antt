@@ -1,7 +1,6 @@
 use borrow.Author.Needs.{needs}
 use Rattle.table.proofs.methods.Statement.{statement}
 use Rattle.table.proofs.methods.Tie as tie
-use Rattle.table.proofs.count.Reads as count-reads
 use mathlib.Core.Path.{_∙_}
 use Rattle.table.proofs.Lookup.{methods-told}
 

@@ -1,8 +1,6 @@
 use borrow.Author.Needs.{needs}
 use Rattle.table.proofs.name_at.Statement.{statement}
 use Rattle.table.proofs.name_at.Tie as tie
-use Rattle.table.proofs.part.Reads as part-reads
-use Rattle.table.proofs.word.Reads as word-reads
 use native.Mathlib.Omega.{arith}
 use Prim.Native.Nat.{_+_}
 use Rattle.table.proofs.Lookup.{name-past, name-in}

@@ -1,7 +1,6 @@
 use borrow.Author.Needs.{needs}
 use Rattle.table.proofs.needs.Statement.{statement}
 use Rattle.table.proofs.needs.Tie as tie
-use Rattle.table.proofs.step_set.Reads as step-set-reads
 use Rattle.table.proofs.Lookup.{needs-told}
 
 step-set-requires : tie.Need-step-set-requires

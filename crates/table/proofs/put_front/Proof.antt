@@ -1,7 +1,6 @@
 use borrow.Author.Needs.{needs}
 use Rattle.table.proofs.put_front.Statement.{statement}
 use Rattle.table.proofs.put_front.Tie as tie
-use Rattle.rows.proofs.put_set.Reads as put-set-reads
 use native.Mathlib.Omega.{arith}
 use mathlib.Core.Path.{_∙_}
 use lib.ListN.{length-set}

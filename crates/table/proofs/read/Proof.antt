@@ -1,13 +1,6 @@
 use borrow.Author.Needs.{needs}
 use Rattle.table.proofs.read.Statement.{statement}
 use Rattle.table.proofs.read.Tie as tie
-use Rattle.outline.proofs.outline_of.Reads as outline-of-reads
-use Rattle.rows.proofs.put_methods.Reads as put-methods-reads
-use Rattle.rows.proofs.put_steps.Reads as put-steps-reads
-use Rattle.rows.proofs.read_ends.Reads as read-ends-reads
-use Rattle.table.proofs.put_front.Reads as put-front-reads
-use Rattle.table.proofs.put_names.Reads as put-names-reads
-use Rattle.table.proofs.question_seven.Reads as question-seven-reads
 use native.Mathlib.Omega.{arith}
 use mathlib.Core.Path.{refl}
 use Rattle.table.specs.Layout.{noTable}

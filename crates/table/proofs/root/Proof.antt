@@ -1,7 +1,6 @@
 use borrow.Author.Needs.{needs}
 use Rattle.table.proofs.root.Statement.{statement}
 use Rattle.table.proofs.root.Tie as tie
-use Rattle.table.proofs.word.Reads as word-reads
 use mathlib.Core.Path.{_∙_}
 use Rattle.table.proofs.Lookup.{root-told}
 

@@ -1,7 +1,6 @@
 use borrow.Author.Needs.{needs}
 use Rattle.table.proofs.set_at.Statement.{statement}
 use Rattle.table.proofs.set_at.Tie as tie
-use Rattle.table.proofs.word.Reads as word-reads
 use native.Mathlib.Omega.{arith}
 use mathlib.Core.Path.{refl}
 use Prim.Native.Nat.{_-_}

@@ -1,7 +1,6 @@
 use borrow.Author.Needs.{needs}
 use Rattle.table.proofs.sets.Statement.{statement}
 use Rattle.table.proofs.sets.Tie as tie
-use Rattle.table.proofs.step_set.Reads as step-set-reads
 use Rattle.table.proofs.Lookup.{sets-told}
 
 step-set-requires : tie.Need-step-set-requires

@@ -1,7 +1,6 @@
 use borrow.Author.Needs.{needs}
 use Rattle.table.proofs.start.Statement.{statement}
 use Rattle.table.proofs.start.Tie as tie
-use Rattle.table.proofs.set_at.Reads as set-at-reads
 use mathlib.Core.Path.{ap, _∙_}
 use Rattle.bitset.specs.Set.{members}
 use Rattle.table.proofs.Lookup.{start-told}

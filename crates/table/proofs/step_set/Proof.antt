@@ -1,8 +1,6 @@
 use borrow.Author.Needs.{needs}
 use Rattle.table.proofs.step_set.Statement.{statement}
 use Rattle.table.proofs.step_set.Tie as tie
-use Rattle.table.proofs.count.Reads as count-reads
-use Rattle.table.proofs.set_at.Reads as set-at-reads
 use native.Mathlib.Omega.{arith}
 use Rattle.table.proofs.Lookup.{set-there, set-none}
 

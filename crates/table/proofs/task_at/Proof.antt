@@ -1,4 +1,3 @@
-use borrow.Author.Needs.{needs}
 use Rattle.table.proofs.task_at.Statement.{statement}
 use Rattle.table.proofs.task_at.Tie as tie
 use Rattle.table.proofs.Lookup.{task-step, task-job}

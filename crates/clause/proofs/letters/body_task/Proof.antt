@@ -4,7 +4,7 @@ use Rattle.clause.proofs.letters.body_task.Tie as tie
 use borrow.Author.Needs.{needs}
 use mathlib.Core.Bool.{false}
 use native.Mathlib.Omega.{arith}
-use Rattle.shape.proofs.Nodes.{few-methods, few-children, in-child}
+use Rattle.shape.proofs.Nodes.{few-methods, in-child}
 use Rattle.clause.proofs.Codes.{wrote-then}
 use Rattle.clause.proofs.Tasks.{body-lits}
 use Rattle.clause.proofs.letters.body_task.Statement.{statement}
