@@ -2,7 +2,7 @@
 
 use std::time::{Duration, Instant};
 
-/// Rounds of turns, and how long a contender's turn is at least.
+/// Rounds of turns, and how long a contender's turn is about.
 const ROUNDS: usize = 25;
 const TURN: Duration = Duration::from_millis(20);
 
@@ -56,14 +56,15 @@ fn turn(work: &mut Work, repeats: u32) -> f64 {
     begun.elapsed().as_secs_f64() / f64::from(repeats)
 }
 
-/// Doubled until a turn is long enough. This warms the contender up too.
+/// As often as comes to a turn's time. This warms the contender up too.
 fn repeats_in_a_turn(work: &mut Work) -> u32 {
     let mut repeats = 1;
     loop {
         let begun = Instant::now();
         turn(work, repeats);
-        if begun.elapsed() >= TURN {
-            return repeats;
+        let taken = begun.elapsed();
+        if taken >= TURN / 2 {
+            return (f64::from(repeats) * TURN.as_secs_f64() / taken.as_secs_f64()).ceil() as u32;
         }
         repeats *= 2;
     }

@@ -1,7 +1,9 @@
-//! Holds the linked calls to the second planner: `calls [SEED] [THOUSANDS]`, with a seed for the cases and how many thousands there are.
-//! Failing cases are saved.
+//! Holds the linked calls to the second planner: `calls [SEED] [THOUSANDS] [direct]`, with a seed for the cases and how many thousands there are;
+//! with the last word those of the planner that is written for speed. Failing cases are saved.
 
 use linked::calls;
+use linked::contender::{Calls, Direct};
+use linked::library::Linked;
 use planner::random::Random;
 use planner::runs::{scratch, Tally};
 use std::process::ExitCode;
@@ -16,7 +18,8 @@ fn main() -> ExitCode {
     println!("seed {seed}");
     let mut tally = Tally::new(scratch::failed());
     let begun = Instant::now();
-    calls::compare(&mut tally, &mut Random::new(seed), 1_000 * number(2, 200) as usize);
+    let held: &dyn Calls = if std::env::args().nth(3).as_deref() == Some("direct") { &Direct } else { &Linked };
+    calls::compare(held, &mut tally, &mut Random::new(seed), 1_000 * number(2, 200) as usize);
     println!("{:.1} s", begun.elapsed().as_secs_f64());
     tally.verdict()
 }

@@ -1,6 +1,6 @@
 //! One linked call beside the second planner's, on the same contents.
 
-use crate::library::Called;
+use crate::contender::Called;
 use planner::places::Record;
 use planner::runs::Tally;
 use planner::Outcome;

@@ -1,10 +1,11 @@
 //! How many clauses there are, without making one.
 
 use super::places::{members, Node, Plan};
+use super::table::LONGEST_BODY;
 
 pub fn all(plan: &Plan) -> usize {
     let nodes: usize = plan.nodes.iter().map(|node| of_node(plan, node)).sum();
-    let slots: usize = plan.nodes.iter().filter(|node| !node.inner).map(|node| of_slot(plan, node)).sum();
+    let slots: usize = plan.slots().map(|node| of_slot(plan, node)).sum();
     1 + nodes + plan.table.facts + slots
 }
 
@@ -14,25 +15,22 @@ pub fn of_node(plan: &Plan, node: &Node) -> usize {
     if !node.inner {
         return tasks;
     }
-    let below = |from: usize| node.children[from..].iter().map(|child| plan.nodes[*child].tasks() as usize).sum::<usize>();
-    let body = |method: &usize| {
-        let named = plan.table.methods[*method].body.len();
-        named + below(named)
-    };
-    let bodies: usize = node.methods.iter().map(body).sum();
-    let steps = node.steps.count_ones() as usize;
-    let inherited = if steps == 0 { 0 } else { steps * (1 + below(1)) };
-    let methods = node.methods.len();
-    tasks + pairs(methods) + node.jobs.count_ones() as usize + methods + bodies + inherited + below(0)
+    // How many task variables the children from each place on have.
+    let mut below = [0; LONGEST_BODY + 1];
+    for (place, child) in plan.children(node).enumerate() {
+        below[place] = child.tasks() as usize;
+    }
+    (0..LONGEST_BODY).rev().for_each(|place| below[place] += below[place + 1]);
+    let lengths = members(node.jobs).fold(0, |all, job| all + plan.table.jobs[job].lengths).to_le_bytes();
+    let bodies: usize = (0..=LONGEST_BODY).map(|length| usize::from(lengths[length]) * (length + below[length])).sum();
+    let inherited = node.step_count as usize * (1 + below[1]);
+    let (jobs, methods) = (node.job_count as usize, node.method_count as usize);
+    tasks + pairs(methods) + jobs + methods + bodies + inherited + below[0]
 }
 
 /// Rule 4.
 pub fn of_slot(plan: &Plan, node: &Node) -> usize {
-    let effects = |step: usize| {
-        let step = &plan.table.steps[step];
-        (step.needs.count_ones() + step.sets.count_ones() + (step.clears & !step.sets).count_ones()) as usize
-    };
-    members(node.steps).map(effects).sum::<usize>() + 2 * plan.table.facts
+    members(node.steps).map(|step| plan.table.steps[step].effects as usize).sum::<usize>() + 2 * plan.table.facts
 }
 
 fn pairs(count: usize) -> usize {

@@ -1,36 +1,55 @@
 //! The listing of a model's procedure: a line for each true job and for each true step at a slot, in node order.
 
-use super::answer::is_true;
-use super::places::{members, Node, Plan};
+use super::model::{Model, True};
+use super::numerals::digits;
+use super::places::Plan;
 
-pub fn write(plan: &Plan, model: &[u8], listing: &mut Vec<u8>) {
+/// The bytes used. Bytes behind them stay as they were.
+pub fn write(plan: &Plan, model: &Model, listing: &mut [u8]) -> usize {
+    let mut out = Out { listing, at: 0 };
     let mut done = 0;
     for node in &plan.nodes {
-        if node.inner {
-            job(plan, node, model, listing);
-        } else if let Some(step) = members(node.steps).find(|step| is_true(model, node.step(*step))) {
-            done += 1;
-            line(listing, b"S", done, plan.table.tasks[step]);
-            listing.push(b'\n');
+        match model.at(plan, node) {
+            Some(True::Method(method)) => {
+                let job = usize::from(plan.table.methods[method].job);
+                out.line(b"J\t", usize::from(node.depth), plan.table.jobs[job].name);
+                out.put(b"\t");
+                out.number(method);
+                out.put(b"\n");
+            }
+            // At an inner node a step is handed down, and listed at a slot.
+            Some(True::Step(step)) if !node.inner => {
+                done += 1;
+                out.line(b"S\t", done, plan.table.steps[step].name);
+                out.put(b"\n");
+            }
+            _ => (),
         }
     }
+    out.at
 }
 
-/// An inner node may hold a step, which is listed at the slot that it is handed down to.
-fn job(plan: &Plan, node: &Node, model: &[u8], listing: &mut Vec<u8>) {
-    let methods = (node.first_method()..).zip(&node.methods);
-    let Some((_, method)) = methods.into_iter().find(|(variable, _)| is_true(model, *variable)) else { return };
-    let job = plan.table.methods[*method].job;
-    line(listing, b"J", node.depth, plan.table.tasks[plan.table.steps.len() + job]);
-    listing.push(b'\t');
-    listing.extend(method.to_string().bytes());
-    listing.push(b'\n');
+struct Out<'a> {
+    listing: &'a mut [u8],
+    at: usize,
 }
 
-fn line(listing: &mut Vec<u8>, letter: &[u8], number: usize, name: &[u8]) {
-    listing.extend(letter);
-    listing.push(b'\t');
-    listing.extend(number.to_string().bytes());
-    listing.push(b'\t');
-    listing.extend(name);
+impl Out<'_> {
+    fn line(&mut self, letter: &[u8], number: usize, name: &[u8]) {
+        self.put(letter);
+        self.number(number);
+        self.put(b"\t");
+        self.put(name);
+    }
+
+    fn number(&mut self, number: usize) {
+        let (bytes, length) = digits(number);
+        self.put(&bytes[..length]);
+    }
+
+    #[inline]
+    fn put(&mut self, bytes: &[u8]) {
+        self.listing[self.at..self.at + bytes.len()].copy_from_slice(bytes);
+        self.at += bytes.len();
+    }
 }

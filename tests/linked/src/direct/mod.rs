@@ -1,94 +1,107 @@
-//! A planner in Rust that is written for speed, as the baseline to measure against: sets are words, names are looked up by hashing, a clause is
-//! handed on as soon as it is made, and nothing is kept of it. It does what four of the calls do, the same questions among them.
+//! A planner in Rust that is written for speed, as the baseline to measure against. It does what the seven calls do, the same questions in the
+//! same order among them, and shares no code with the second planner but the form of an outcome and of a record.
+//!
+//! Sets are words. The table is read in one pass, sixteen bytes of a name at a time, and names are hashed as one number. What a node's children
+//! may hold is kept by job, so that no visit goes through methods. Clauses are counted in closed form, skipped by nodes and rows, and written a
+//! literal a store. Values are looked at by whole nodes and boundaries.
 
 mod answer;
 mod clauses;
 mod counts;
 mod listing;
+mod model;
+mod names;
+mod numerals;
 mod places;
+mod programs;
 mod table;
 mod text;
 
-pub use places::Plan;
-pub use table::read;
+pub use programs::{print_formula, print_procedure, FILE_ROOM};
 
-use planner::{question, Outcome, Refused};
+use model::Model;
+use places::Plan;
+use planner::calls::{LISTING_BYTES, TEXT_BYTES, TREE_RECORDS, VALUES};
+use planner::places::Record;
+use planner::{question, Outcome};
 
-/// The counts of nodes, variables and clauses, as the check call gives them.
+/// Questions 2 to 9.
+fn planned(file: &[u8]) -> Outcome<Plan<'_>> {
+    Plan::of(table::read(file)?)
+}
+
+/// The counts of nodes, variables and clauses.
 pub fn check(file: &[u8]) -> Outcome<[usize; 3]> {
-    let plan = Plan::of(read(file)?)?;
+    let plan = planned(file)?;
     Ok([plan.nodes.len(), plan.variables, counts::all(&plan)])
 }
 
-/// The text from a line on, as a text call writes it into so many bytes, 1,024 or more: the bytes used and the next line.
-pub fn write_text(file: &[u8], line: usize, room: usize, text: &mut Vec<u8>) -> Outcome<[usize; 2]> {
-    let plan = Plan::of(read(file)?)?;
-    text.clear();
-    let next = text::write(&plan, line, room, text);
-    // Every line fits into the 1,024 bytes that a call wants, so a line that is there was written.
-    question(11, !text.is_empty())?;
-    Ok([text.len(), next])
+/// The node count.
+pub fn build(file: &[u8], tree: &mut [Record]) -> Outcome<usize> {
+    question(1, tree.len() >= TREE_RECORDS)?;
+    let plan = planned(file)?;
+    plan.write_records(tree);
+    Ok(plan.nodes.len())
 }
 
-/// The model that an answer gives.
-fn heard(plan: &Plan, reply: &[u8]) -> Outcome<Vec<u8>> {
-    let heard = answer::values(reply, plan.variables)?;
-    question(15, clauses::each(plan, 0, |clause| clause.iter().any(|literal| answer::is_true(&heard, *literal))))?;
-    Ok(heard)
+/// The bytes used and the next line.
+pub fn write_text(file: &[u8], tree: &[Record], line: usize, text: &mut [u8]) -> Outcome<[usize; 2]> {
+    question(1, tree.len() >= TREE_RECORDS && text.len() >= TEXT_BYTES)?;
+    text::write(&planned(file)?.with_tree(tree)?, line, text)
 }
 
-/// The listing of an answer, as a call that lists it writes it: the bytes used.
-pub fn list_answer(file: &[u8], reply: &[u8], listing: &mut Vec<u8>) -> Outcome<usize> {
-    let plan = Plan::of(read(file)?)?;
-    let model = heard(&plan, reply)?;
-    listing.clear();
-    listing::write(&plan, &model, listing);
-    Ok(listing.len())
+/// The same with no tree lent.
+pub fn write_formula(file: &[u8], line: usize, text: &mut [u8]) -> Outcome<[usize; 2]> {
+    question(1, text.len() >= TEXT_BYTES)?;
+    text::write(&planned(file)?, line, text)
 }
 
-/// An answer's values, as a call that takes it leaves them.
-pub fn take_answer(file: &[u8], reply: &[u8], values: &mut [u8]) -> Outcome<usize> {
-    let heard = heard(&Plan::of(read(file)?)?, reply)?;
-    values.get_mut(..heard.len()).ok_or(Refused(1))?.copy_from_slice(&heard);
+/// How many values were written.
+pub fn take_answer(file: &[u8], tree: &[Record], reply: &[u8], values: &mut [u8]) -> Outcome<usize> {
+    question(1, tree.len() >= TREE_RECORDS && values.len() >= VALUES)?;
+    let plan = planned(file)?.with_tree(tree)?;
+    let (heard, _) = heard(&plan, reply)?;
+    values[..heard.len()].copy_from_slice(&heard);
     Ok(heard.len())
+}
+
+/// The bytes used.
+pub fn list_procedure(file: &[u8], tree: &[Record], values: &[u8], listing: &mut [u8]) -> Outcome<usize> {
+    question(1, tree.len() >= TREE_RECORDS && values.len() >= VALUES && listing.len() >= LISTING_BYTES)?;
+    let plan = planned(file)?.with_tree(tree)?;
+    let own = &values[..plan.variables];
+    // All of them, with no end before, so that many are looked at at once.
+    question(14, own.iter().fold(0, |all, value| all | value) <= 1)?;
+    Ok(listing::write(&plan, &Model::of(&plan, own)?, listing))
+}
+
+/// The bytes used; the values are an answer's, and neither they nor a tree are lent.
+pub fn list_answer(file: &[u8], reply: &[u8], listing: &mut [u8]) -> Outcome<usize> {
+    question(1, listing.len() >= LISTING_BYTES)?;
+    let plan = planned(file)?;
+    let (_, model) = heard(&plan, reply)?;
+    Ok(listing::write(&plan, &model, listing))
+}
+
+/// The values that an answer gives, and the same as a model.
+fn heard(plan: &Plan, reply: &[u8]) -> Outcome<(Vec<u8>, Model)> {
+    let heard = answer::values(reply, plan.variables)?;
+    let model = Model::of(plan, &heard)?;
+    Ok((heard, model))
 }
 
 #[cfg(test)]
 mod tests {
-    use super::*;
-    use planner::calls;
-    use planner::formula::formula;
-    use planner::make::cases::{answer_case, table_case};
-    use planner::places::Record;
+    use crate::calls::compare;
+    use crate::contender::Direct;
     use planner::random::Random;
-    use planner::text::lines_that_fit;
+    use planner::runs::{scratch, Tally};
 
     /// A baseline that does something else would measure nothing.
     #[test]
     fn the_same_as_the_second_planner() {
-        let mut random = Random::new(7);
-        for _ in 0..3_000 {
-            let case = answer_case(&mut random);
-            for file in [&case.table, &table_case(&mut random).table] {
-                assert_eq!(check(file), calls::check(file).map(|(nodes, variables, clauses)| [nodes, variables, clauses]));
-                for (line, room) in [(0, usize::MAX), (random.below(20), random.between(1_024, 3_000)), (random.below(2_000), 1_024)] {
-                    let mut text = Vec::new();
-                    let expected = formula(file).and_then(|formula| lines_that_fit(&formula, line, room));
-                    let written = write_text(file, line, room, &mut text);
-                    assert_eq!(written, expected.as_ref().map(|(text, next)| [text.len(), *next]).map_err(|refused| *refused));
-                    assert_eq!(text, expected.unwrap_or_default().0.into_bytes());
-                }
-            }
-            let mut tree = vec![Record::of([0; Record::FIELDS]); calls::TREE_RECORDS];
-            let _ = calls::build(&case.table, &mut tree);
-            let (mut values, mut wanted) = (vec![7; calls::VALUES], vec![7; calls::VALUES]);
-            let taken = take_answer(&case.table, &case.answer, &mut values);
-            assert_eq!(taken, calls::take_answer(&case.table, &tree, &case.answer, &mut wanted));
-            assert_eq!(values, wanted);
-            let (mut own, mut listing) = (Vec::new(), vec![7; calls::LISTING_BYTES]);
-            let listed = list_answer(&case.table, &case.answer, &mut own);
-            assert_eq!(listed, calls::list_answer(&case.table, &case.answer, &mut listing));
-            assert_eq!(own, listing[..listed.unwrap_or(0)]);
-        }
+        let mut tally = Tally::new(scratch::failed());
+        compare(&Direct, &mut tally, &mut Random::new(7), 30_000);
+        assert_eq!(tally.failed, 0);
     }
 }

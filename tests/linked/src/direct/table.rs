@@ -1,142 +1,355 @@
-//! The table file, in one pass for its lines and one for its names.
+//! The table file, in one pass: a name is looked up as soon as it is read, since in a table that is accepted it was declared before.
 
-use planner::table::Task;
+use super::names::{first_name, Key, Names};
 use planner::{question, Outcome, Refused};
-use std::collections::HashMap;
 
-pub struct Step {
+pub const MOST_FACTS: usize = 64;
+pub const MOST_STEPS: usize = 64;
+pub const MOST_JOBS: usize = 64;
+pub const MOST_METHODS: usize = 128;
+pub const LONGEST_BODY: usize = 8;
+
+/// A task as a number: the steps, behind them the jobs.
+pub type Task = u8;
+pub const FIRST_JOB: Task = MOST_STEPS as Task;
+
+/// A name's code: the tasks, behind them the facts.
+const FIRST_FACT: u8 = FIRST_JOB + MOST_JOBS as u8;
+
+pub struct Step<'a> {
+    pub name: &'a [u8],
     pub needs: u64,
     pub sets: u64,
+    /// Those that are not set as well.
     pub clears: u64,
+    /// How many facts the three sets have.
+    pub effects: u32,
+}
+
+pub struct Job<'a> {
+    pub name: &'a [u8],
+    pub methods: u128,
+    pub method_count: u32,
+    pub longest: usize,
+    /// How many methods have a body of each length, a byte for each.
+    pub lengths: u128,
+    /// The steps and the jobs at each place of a body.
+    pub holds: [Holding; LONGEST_BODY],
+}
+
+#[derive(Clone, Copy, Default)]
+pub struct Holding {
+    pub steps: u64,
+    pub jobs: u64,
+}
+
+impl Holding {
+    pub fn unite(&mut self, other: Holding) {
+        self.steps |= other.steps;
+        self.jobs |= other.jobs;
+    }
+
+    fn insert(&mut self, task: Task) {
+        match task.checked_sub(FIRST_JOB) {
+            None => self.steps |= 1 << task,
+            Some(job) => self.jobs |= 1 << job,
+        }
+    }
 }
 
 pub struct Method {
-    pub job: usize,
-    pub body: Vec<Task>,
+    pub job: u8,
+    pub length: u8,
+    pub tasks: [Task; LONGEST_BODY],
+}
+
+impl Method {
+    pub fn body(&self) -> &[Task] {
+        &self.tasks[..usize::from(self.length)]
+    }
 }
 
 pub struct Table<'a> {
     pub facts: usize,
-    pub steps: Vec<Step>,
-    /// The names of the steps and behind them those of the jobs, where they stand in the file.
-    pub tasks: Vec<&'a [u8]>,
+    pub steps: Vec<Step<'a>>,
+    pub jobs: Vec<Job<'a>>,
     pub methods: Vec<Method>,
     pub start: u64,
     pub root: usize,
     pub depth: usize,
 }
 
-/// The fields behind a line's letter.
-type Fields<'a> = [&'a [u8]; 4];
-
 pub fn read(file: &[u8]) -> Outcome<Table<'_>> {
     question(2, file.len() <= 65_536 && file.last() == Some(&b'\n'))?;
-    let mut lines: Vec<(u8, Fields)> = Vec::new();
-    for line in file[..file.len() - 1].split(|byte| *byte == b'\n') {
-        lines.push(formed(line).ok_or(Refused(3))?);
+    let mut reader = Reader::new(file);
+    while reader.at < file.len() {
+        reader.line().ok_or(Refused(3))?;
     }
-    let often = in_order(&lines).ok_or(Refused(4))?;
-    let limits = often[0] <= 64 && often[1] <= 64 && often[2] <= 64 && often[3] <= 128;
-    question(5, limits && lines.iter().all(|(letter, fields)| *letter != b'M' || names_in(fields[1]) <= 8))?;
-    let names = declared(&lines).ok_or(Refused(6))?;
-    look_up(&lines, often, &names).ok_or(Refused(7))
-}
-
-fn formed(line: &[u8]) -> Option<(u8, Fields<'_>)> {
-    let (letter, rest) = (line.first()?, line.get(1..)?);
-    let mut fields: Fields = [b""; 4];
-    let mut count = 0;
-    for field in rest.strip_prefix(b"\t")?.split(|byte| *byte == b'\t') {
-        *fields.get_mut(count)? = field;
-        count += 1;
+    if !reader.ends_in_order() {
+        reader.unmet(4);
     }
-    let met = match letter {
-        b'F' | b'T' => count == 1 && is_name(fields[0]),
-        b'S' => count == 4 && is_name(fields[0]) && fields[1..].iter().all(|field| is_list(field)),
-        b'M' => count == 2 && is_name(fields[0]) && is_list(fields[1]),
-        b'I' => count == 1 && is_list(fields[0]),
-        b'R' => count == 2 && is_name(fields[0]) && matches!(fields[1], [b'1'..=b'8']),
-        _ => false,
-    };
-    met.then_some((*letter, fields))
+    question(reader.unmet, reader.unmet == NONE)?;
+    Ok(reader.table)
 }
 
-fn is_name(field: &[u8]) -> bool {
-    matches!(field, [b'a'..=b'z', ..]) && field.len() <= 12 && field.iter().all(|byte| matches!(byte, b'a'..=b'z' | b'0'..=b'9' | b'-'))
+/// A number past every question's.
+const NONE: u32 = u32::MAX;
+
+struct Reader<'a> {
+    file: &'a [u8],
+    at: usize,
+    /// The last line's letter as its place in the order, and how many lines of the last two letters there were.
+    order: u8,
+    starts: usize,
+    roots: usize,
+    /// The first question of 4 to 7 that is not met so far.
+    unmet: u32,
+    names: Names,
+    table: Table<'a>,
 }
 
-fn is_list(field: &[u8]) -> bool {
-    field == b"-" || field.split(|byte| *byte == b',').all(is_name)
-}
-
-fn list(field: &[u8]) -> impl Iterator<Item = &[u8]> {
-    field.split(|byte| *byte == b',').filter(move |_| field != b"-")
-}
-
-fn names_in(field: &[u8]) -> usize {
-    list(field).count()
-}
-
-/// How many lines of each letter there are, where they stand in order.
-fn in_order(lines: &[(u8, Fields)]) -> Option<[usize; 6]> {
-    let mut often = [0; 6];
-    let mut last = 0;
-    for (letter, _) in lines {
-        let kind = b"FSTMIR".iter().position(|known| known == letter)?;
-        if kind < last {
-            return None;
-        }
-        last = kind;
-        often[kind] += 1;
+impl<'a> Reader<'a> {
+    fn new(file: &'a [u8]) -> Reader<'a> {
+        let table = Table { facts: 0, steps: Vec::new(), jobs: Vec::new(), methods: Vec::new(), start: 0, root: 0, depth: 0 };
+        Reader { file, at: 0, order: 0, starts: 0, roots: 0, unmet: NONE, names: Names::new(), table }
     }
-    (often[4] == 1 && often[5] == 1).then_some(often)
-}
 
-/// Each declared name with its place among all that are declared.
-fn declared<'a>(lines: &[(u8, Fields<'a>)]) -> Option<HashMap<&'a [u8], usize>> {
-    let mut names = HashMap::new();
-    for (_, fields) in lines.iter().filter(|(letter, _)| matches!(letter, b'F' | b'S' | b'T')) {
-        let place = names.len();
-        if names.insert(fields[0], place).is_some() {
-            return None;
-        }
+    fn unmet(&mut self, question: u32) {
+        self.unmet = self.unmet.min(question);
     }
-    Some(names)
-}
 
-fn look_up<'a>(lines: &[(u8, Fields<'a>)], often: [usize; 6], names: &HashMap<&[u8], usize>) -> Option<Table<'a>> {
-    let [facts, steps, ..] = often;
-    let fact = |name: &[u8]| names.get(name).copied().filter(|place| *place < facts);
-    let task = |name: &[u8]| match names.get(name)?.checked_sub(facts)? {
-        step if step < steps => Some(Task::Step(step)),
-        other => Some(Task::Job(other - steps)),
-    };
-    let job = |name: &[u8]| match task(name)? {
-        Task::Job(job) => Some(job),
-        Task::Step(_) => None,
-    };
-    let fact_set = |field: &[u8]| {
-        list(field).try_fold(0u64, |set, name| {
-            let member = 1 << fact(name)?;
-            (set & member == 0).then_some(set | member)
-        })
-    };
-    let mut table = Table { facts, steps: Vec::new(), tasks: Vec::new(), methods: Vec::new(), start: 0, root: 0, depth: 0 };
-    for (letter, fields) in lines {
+    fn ends_in_order(&self) -> bool {
+        self.starts == 1 && self.roots == 1
+    }
+
+    // Lines. Nothing where the line is not formed.
+
+    fn line(&mut self) -> Option<()> {
+        let letter = self.file[self.at];
+        self.at += 1;
+        self.take(b'\t')?;
         match letter {
-            b'S' => {
-                table.steps.push(Step { needs: fact_set(fields[1])?, sets: fact_set(fields[2])?, clears: fact_set(fields[3])? });
-                table.tasks.push(fields[0]);
-            }
-            b'T' => table.tasks.push(fields[0]),
-            b'M' => table.methods.push(Method { job: job(fields[0])?, body: list(fields[1]).map(task).collect::<Option<_>>()? }),
-            b'I' => table.start = fact_set(fields[0])?,
-            b'R' => {
-                table.root = job(fields[0])?;
-                table.depth = usize::from(fields[1][0] - b'0');
-            }
-            _ => (),
+            b'F' => self.in_order(0).fact(),
+            b'S' => self.in_order(1).step(),
+            b'T' => self.in_order(2).job(),
+            b'M' => self.in_order(3).method(),
+            b'I' => self.in_order(4).start(),
+            b'R' => self.in_order(5).root(),
+            _ => None,
         }
     }
-    Some(table)
+
+    fn in_order(&mut self, order: u8) -> &mut Reader<'a> {
+        if order < self.order {
+            self.unmet(4);
+        }
+        self.order = order;
+        self
+    }
+
+    fn fact(&mut self) -> Option<()> {
+        let key = self.name()?;
+        self.take(b'\n')?;
+        if self.table.facts < MOST_FACTS {
+            self.declare(key, FIRST_FACT + self.table.facts as u8);
+            self.table.facts += 1;
+        } else {
+            self.unmet(5);
+        }
+        Some(())
+    }
+
+    fn step(&mut self) -> Option<()> {
+        let (key, name) = self.shown_name()?;
+        self.take(b'\t')?;
+        let needs = self.facts()?;
+        self.take(b'\t')?;
+        let sets = self.facts()?;
+        self.take(b'\t')?;
+        let clears = self.facts()? & !sets;
+        self.take(b'\n')?;
+        let number = self.table.steps.len();
+        if number < MOST_STEPS {
+            self.declare(key, number as u8);
+            let effects = needs.count_ones() + sets.count_ones() + clears.count_ones();
+            self.table.steps.push(Step { name, needs, sets, clears, effects });
+        } else {
+            self.unmet(5);
+        }
+        Some(())
+    }
+
+    fn job(&mut self) -> Option<()> {
+        let (key, name) = self.shown_name()?;
+        self.take(b'\n')?;
+        let number = self.table.jobs.len();
+        if number < MOST_JOBS {
+            self.declare(key, FIRST_JOB + number as u8);
+            self.table.jobs.push(Job {
+                name,
+                methods: 0,
+                method_count: 0,
+                longest: 0,
+                lengths: 0,
+                holds: [Holding::default(); LONGEST_BODY],
+            });
+        } else {
+            self.unmet(5);
+        }
+        Some(())
+    }
+
+    fn method(&mut self) -> Option<()> {
+        let job = self.used_job()?;
+        self.take(b'\t')?;
+        let (length, tasks) = self.body()?;
+        self.take(b'\n')?;
+        let number = self.table.methods.len();
+        if number == MOST_METHODS {
+            self.unmet(5);
+        } else if let Some(own) = self.table.jobs.get_mut(job) {
+            own.methods |= 1 << number;
+            own.method_count += 1;
+            own.longest = own.longest.max(length);
+            own.lengths += 1 << (8 * length);
+            tasks[..length].iter().zip(&mut own.holds).for_each(|(task, holding)| holding.insert(*task));
+            self.table.methods.push(Method { job: job as u8, length: length as u8, tasks });
+        }
+        Some(())
+    }
+
+    fn start(&mut self) -> Option<()> {
+        self.starts += 1;
+        self.table.start = self.facts()?;
+        self.take(b'\n')
+    }
+
+    fn root(&mut self) -> Option<()> {
+        self.roots += 1;
+        self.table.root = self.used_job()?;
+        self.take(b'\t')?;
+        let digit = self.file[self.at];
+        self.at += 1;
+        self.table.depth = usize::from(digit.wrapping_sub(b'0'));
+        (1..=8).contains(&self.table.depth).then_some(())?;
+        self.take(b'\n')
+    }
+
+    // Fields. A name ends before the file's last byte, which is LF, so that there is a byte behind it.
+
+    #[inline]
+    fn take(&mut self, byte: u8) -> Option<()> {
+        let found = self.file.get(self.at) == Some(&byte);
+        self.at += 1;
+        found.then_some(())
+    }
+
+    #[inline]
+    fn window(&self) -> [u8; 16] {
+        let rest = &self.file[self.at..];
+        match rest.first_chunk() {
+            Some(window) => *window,
+            None => {
+                let mut window = [0; 16];
+                window[..rest.len()].copy_from_slice(rest);
+                window
+            }
+        }
+    }
+
+    #[inline(always)]
+    fn name(&mut self) -> Option<Key> {
+        let (key, length) = first_name(self.window())?;
+        self.at += length;
+        Some(key)
+    }
+
+    /// A name that is shown later, with where it stands.
+    fn shown_name(&mut self) -> Option<(Key, &'a [u8])> {
+        let begun = self.at;
+        let key = self.name()?;
+        Some((key, &self.file[begun..self.at]))
+    }
+
+    fn declare(&mut self, key: Key, code: u8) {
+        if !self.names.insert(key, code) {
+            self.unmet(6);
+        }
+    }
+
+    /// A used name's code.
+    #[inline(always)]
+    fn used(&mut self) -> Option<Option<u8>> {
+        let key = self.name()?;
+        Some(self.names.get(key))
+    }
+
+    fn used_job(&mut self) -> Option<usize> {
+        let code = self.used()?;
+        let job = code.filter(|code| (FIRST_JOB..FIRST_FACT).contains(code));
+        if job.is_none() {
+            self.unmet(7);
+        }
+        Some(job.map_or(MOST_JOBS, |code| usize::from(code - FIRST_JOB)))
+    }
+
+    fn facts(&mut self) -> Option<u64> {
+        let mut set = 0;
+        if self.is_empty_list() {
+            return Some(set);
+        }
+        loop {
+            let fact = self.used()?.and_then(|code| code.checked_sub(FIRST_FACT));
+            match fact.map(|fact| 1 << fact).filter(|member| set & member == 0) {
+                Some(member) => set |= member,
+                None => self.unmet(7),
+            }
+            if !self.goes_on() {
+                return Some(set);
+            }
+        }
+    }
+
+    /// The first tasks of a body, as many as there may be, and their number.
+    fn body(&mut self) -> Option<(usize, [Task; LONGEST_BODY])> {
+        let (mut length, mut tasks) = (0, [0; LONGEST_BODY]);
+        if self.is_empty_list() {
+            return Some((length, tasks));
+        }
+        loop {
+            let task = self.used()?.filter(|code| *code < FIRST_FACT);
+            if task.is_none() {
+                self.unmet(7);
+            }
+            match tasks.get_mut(length) {
+                Some(place) => {
+                    *place = task.unwrap_or(0);
+                    length += 1;
+                }
+                None => self.unmet(5),
+            }
+            if !self.goes_on() {
+                return Some((length, tasks));
+            }
+        }
+    }
+
+    /// A lone hyphen; what follows it is looked at by the caller.
+    fn is_empty_list(&mut self) -> bool {
+        self.passes(b'-')
+    }
+
+    fn goes_on(&mut self) -> bool {
+        self.passes(b',')
+    }
+
+    /// Goes past the byte where it is the next one.
+    #[inline]
+    fn passes(&mut self, byte: u8) -> bool {
+        if self.file[self.at] != byte {
+            return false;
+        }
+        self.at += 1;
+        true
+    }
 }
