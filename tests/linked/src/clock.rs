@@ -4,7 +4,7 @@ use std::time::{Duration, Instant};
 
 /// Rounds of turns, and how long a contender's turn is about.
 const ROUNDS: usize = 25;
-const TURN: Duration = Duration::from_millis(20);
+const TURN: Duration = Duration::from_millis(12);
 
 /// A contender: its work, done once a call.
 pub type Work<'a> = Box<dyn FnMut() + 'a>;

@@ -75,6 +75,11 @@ pub struct Case<'a> {
 }
 
 impl Case<'_> {
+    /// As a command names it.
+    pub fn name(&self) -> String {
+        format!("{}:{}", self.call.name(), self.input.name)
+    }
+
     pub fn lent(&self) -> Lent {
         let (records, bytes) = match self.call {
             Call::Check => (0, 0),
@@ -108,7 +113,7 @@ impl Case<'_> {
         };
         let wanted = came(SECOND.calls);
         for contender in contenders {
-            assert!(came(contender.calls) == wanted, "{} of {}: {} differs", self.call.name(), self.input.name, contender.name);
+            assert!(came(contender.calls) == wanted, "{}: {} differs", self.name(), contender.name);
         }
         wanted.0
     }

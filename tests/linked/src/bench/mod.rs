@@ -9,7 +9,6 @@ mod report;
 use crate::clock::{in_turns, shown, Work};
 use case::{all, fast, Call, Case, Contender, LARGE_TEXT, LIBRARY};
 use input::{grown, read, unreached, Input, Size};
-use instructions::Counted;
 use planner::calls::TEXT_BYTES;
 use report::{case_row, contender_names, figures, grouped, row, title};
 use std::hint::black_box;
@@ -45,29 +44,17 @@ impl Inputs {
         }
     }
 
-    /// Those whose instructions are counted.
-    fn counted(&self) -> Vec<Counted<'_>> {
-        let case = |name, call, input| (name, Case { call, input });
-        vec![
-            case("check-example", Call::Check, &self.example),
-            case("check-workshop", Call::Check, &self.workshop),
-            case("check-unreached", Call::Check, &self.unreached),
-            case("check-facts", Call::Check, &self.facts),
-            case("check-large-wide", Call::Check, &self.large_wide),
-            case("check-bytes", Call::Check, &self.bytes),
-            case("check-refused", Call::Check, &self.refused),
-            case("build-nodes", Call::Build, &self.nodes),
-            case("formula-example", Call::WriteFormula(0, TEXT_BYTES), &self.example),
-            case("formula-workshop", Call::WHOLE_FORMULA, &self.workshop),
-            case("formula-nodes", Call::WHOLE_FORMULA, &self.nodes),
-            case("formula-facts", Call::WHOLE_FORMULA, &self.facts),
-            case("formula-large-wide", Call::WHOLE_FORMULA, &self.large_wide),
-            case("take-workshop", Call::TakeAnswer, &self.workshop),
-            case("take-facts", Call::TakeAnswer, &self.facts),
-            case("take-wide", Call::TakeAnswer, &self.wide),
-            case("list-example", Call::ListAnswer, &self.example),
-            case("list-wide", Call::ListProcedure, &self.wide),
-        ]
+    /// The cases whose instructions are counted.
+    fn counted(&self) -> Vec<Case<'_>> {
+        let Inputs { wide, large_wide, facts, nodes, bytes, refused, example, workshop, unreached } = self;
+        let mut cases = inputs_by(Call::Check, &[example, workshop, unreached, facts, large_wide, bytes, refused]);
+        cases.extend(inputs_by(Call::Build, &[nodes]));
+        cases.extend(inputs_by(Call::WriteFormula(0, TEXT_BYTES), &[example]));
+        cases.extend(inputs_by(Call::WHOLE_FORMULA, &[workshop, nodes, facts, large_wide]));
+        cases.extend(inputs_by(Call::TakeAnswer, &[workshop, facts, wide]));
+        cases.extend(inputs_by(Call::ListProcedure, &[wide]));
+        cases.extend(inputs_by(Call::ListAnswer, &[example]));
+        cases
     }
 }
 
@@ -125,7 +112,7 @@ fn whole_formulas(inputs: &[&Input]) {
         let case = Case { call: Call::WHOLE_TEXT, input };
         let [used, _, _] = case.agreed(&contenders).expect("a table that is measured is accepted");
         let [_, variables, clauses] = input.counts;
-        let (text, mut copy) = (vec![7; used], vec![0; LARGE_TEXT]);
+        let (text, mut copy): (Vec<u8>, Vec<u8>) = (vec![7; used], vec![0; LARGE_TEXT]);
         let mut works: Vec<Work> = contenders.iter().map(|contender| case.work(*contender)).collect();
         works.push(Box::new(|| black_box(&mut copy)[..used].copy_from_slice(black_box(&text))));
         let about = [input.name.clone(), grouped(variables), grouped(clauses), grouped(used)];
