@@ -1,10 +1,38 @@
 //! Times of contenders that do the same work, taken in turns, so that whatever else the machine does falls on all of them alike.
 
-use std::time::{Duration, Instant};
-
-/// Rounds of turns, and how long a contender's turn is about.
+/// Rounds of turns, and how many seconds a contender's turn is about.
 const ROUNDS: usize = 25;
-const TURN: Duration = Duration::from_millis(12);
+const TURN: f64 = 0.012;
+
+/// What is measured, by Linux's numbers of the clocks.
+#[derive(Clone, Copy)]
+pub enum Clock {
+    /// Time that passes, for what other processes do.
+    Wall = 1,
+    /// The processor's time for this thread, in which nothing else that runs on the machine counts.
+    Thread = 3,
+}
+
+#[repr(C)]
+struct Time {
+    seconds: i64,
+    nanoseconds: i64,
+}
+
+extern "C" {
+    fn clock_gettime(clock: i32, time: *mut Time) -> i32;
+}
+
+impl Clock {
+    /// Seconds since some moment.
+    fn now(self) -> f64 {
+        let mut time = Time { seconds: 0, nanoseconds: 0 };
+        // SAFETY: the C library's function writes one time to where the pointer leads, and keeps nothing.
+        let status = unsafe { clock_gettime(self as i32, &mut time) };
+        assert_eq!(status, 0, "Linux has this clock");
+        time.seconds as f64 + time.nanoseconds as f64 * 1e-9
+    }
+}
 
 /// A contender: its work, done once a call.
 pub type Work<'a> = Box<dyn FnMut() + 'a>;
@@ -36,35 +64,33 @@ fn median(mut values: Vec<f64>) -> f64 {
     values[values.len() / 2]
 }
 
-pub fn in_turns(contenders: &mut [Work]) -> Vec<Times> {
-    let repeats: Vec<u32> = contenders.iter_mut().map(repeats_in_a_turn).collect();
+pub fn in_turns(clock: Clock, contenders: &mut [Work]) -> Vec<Times> {
+    let repeats: Vec<u32> = contenders.iter_mut().map(|work| repeats_in_a_turn(clock, work)).collect();
     let mut times: Vec<Vec<f64>> = vec![Vec::new(); contenders.len()];
     for _ in 0..ROUNDS {
         for (place, work) in contenders.iter_mut().enumerate() {
-            times[place].push(turn(work, repeats[place]));
+            times[place].push(turn(clock, work, repeats[place]) / f64::from(repeats[place]));
         }
     }
     times.into_iter().map(Times).collect()
 }
 
-/// One turn's time for the work done once.
-fn turn(work: &mut Work, repeats: u32) -> f64 {
-    let begun = Instant::now();
+/// The time for the work done so often.
+fn turn(clock: Clock, work: &mut Work, repeats: u32) -> f64 {
+    let begun = clock.now();
     for _ in 0..repeats {
         work();
     }
-    begun.elapsed().as_secs_f64() / f64::from(repeats)
+    clock.now() - begun
 }
 
 /// As often as comes to a turn's time. This warms the contender up too.
-fn repeats_in_a_turn(work: &mut Work) -> u32 {
+fn repeats_in_a_turn(clock: Clock, work: &mut Work) -> u32 {
     let mut repeats = 1;
     loop {
-        let begun = Instant::now();
-        turn(work, repeats);
-        let taken = begun.elapsed();
-        if taken >= TURN / 2 {
-            return (f64::from(repeats) * TURN.as_secs_f64() / taken.as_secs_f64()).ceil() as u32;
+        let taken = turn(clock, work, repeats);
+        if taken >= TURN / 2.0 {
+            return (f64::from(repeats) * TURN / taken).ceil() as u32;
         }
         repeats *= 2;
     }

@@ -6,7 +6,7 @@ mod instructions;
 mod programs;
 mod report;
 
-use crate::clock::{in_turns, shown, Work};
+use crate::clock::{in_turns, shown, Clock, Work};
 use case::{all, fast, Call, Case, Contender, LARGE_TEXT, LIBRARY};
 use input::{grown, read, unreached, Input, Size};
 use planner::calls::TEXT_BYTES;
@@ -116,7 +116,7 @@ fn whole_formulas(inputs: &[&Input]) {
         let mut works: Vec<Work> = contenders.iter().map(|contender| case.work(*contender)).collect();
         works.push(Box::new(|| black_box(&mut copy)[..used].copy_from_slice(black_box(&text))));
         let about = [input.name.clone(), grouped(variables), grouped(clauses), grouped(used)];
-        row(&about, &figures(&in_turns(&mut works)));
+        row(&about, &figures(&in_turns(Clock::Thread, &mut works)));
     }
 }
 
@@ -200,7 +200,7 @@ fn growth_row(what: &str, input: &Input) {
     let [_, written, _] = cases.each_ref().map(|case| case.agreed(&fast()).expect("a table that is measured is accepted"));
     let [nodes, variables, clauses] = input.counts;
     let mut works = cases.each_ref().map(|case| case.work(LIBRARY));
-    let times = in_turns(&mut works);
+    let times = in_turns(Clock::Thread, &mut works);
     let per = [(nodes, 0), (written[0], 1), (clauses, 0)];
     let figures = times.iter().zip(per).flat_map(|(times, (count, decimals))| {
         let each = times.median() * 1e9 / count as f64;

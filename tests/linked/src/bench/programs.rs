@@ -2,7 +2,7 @@
 
 use super::input::Input;
 use super::report::{figures, grouped, row, title};
-use crate::clock::{in_turns, Work};
+use crate::clock::{in_turns, Clock, Work};
 use planner::runs::scratch;
 use std::fs::File;
 use std::path::{Path, PathBuf};
@@ -43,7 +43,7 @@ fn program_row(program: &str, input: &Input, contenders: &[PathBuf], empty: &Pat
     assert!(!written[0].is_empty() && written.iter().all(|other| *other == written[0]), "{program} of {}: they differ", input.name);
     let mut works: Vec<Work> =
         contenders.iter().map(PathBuf::as_path).chain([empty]).map(|program| Box::new(move || run(program)) as Work).collect();
-    row(&[program.to_string(), input.name.clone(), grouped(written[0].len())], &figures(&in_turns(&mut works)));
+    row(&[program.to_string(), input.name.clone(), grouped(written[0].len())], &figures(&in_turns(Clock::Wall, &mut works)));
 }
 
 fn written_by(program: &Path) -> Vec<u8> {

@@ -1,7 +1,7 @@
 //! The tables of figures, as docs/BENCHMARKS.md has them.
 
 use super::case::{Case, Contender};
-use crate::clock::{in_turns, shown, Times, Work};
+use crate::clock::{in_turns, shown, Clock, Times, Work};
 
 /// A table's columns: what a row is about, then the first contender's time, then each other's with the ratio of the first to it.
 pub fn title(text: &str, about: &str, contenders: &[&str]) {
@@ -28,7 +28,7 @@ fn spread(times: &Times) -> String {
 /// The row of a case.
 pub fn case_row(about: &[String], case: &Case, contenders: &[Contender]) {
     let mut works: Vec<Work> = contenders.iter().map(|contender| case.work(*contender)).collect();
-    row(about, &figures(&in_turns(&mut works)));
+    row(about, &figures(&in_turns(Clock::Thread, &mut works)));
 }
 
 pub fn contender_names(contenders: &[Contender]) -> Vec<&'static str> {
