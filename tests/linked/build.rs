@@ -11,25 +11,29 @@ fn main() {
     };
     let here = path("CARGO_MANIFEST_DIR").expect("cargo says where the package is");
     let out = path("OUT_DIR").expect("cargo says where to write");
+    println!("cargo:rustc-link-search=native={}", out.display());
     let library = path("LIBRARY").unwrap_or_else(|| here.join("../../target/staticlib/libcurdfuture.a"));
-    link(&library, &out, "curdfuture", "");
+    std::fs::copy(&library, out.join("libcurdfuture.a")).unwrap_or_else(|error| panic!("{}: {error}", library.display()));
+    link(&library, "curdfuture");
     if let Some(older) = path("OLDER_LIBRARY") {
-        link(&older, &out, "curdfuture_older", "older_");
+        rename(&older, &out.join("libcurdfuture_older.a"), "older_");
+        link(&older, "curdfuture_older");
         println!("cargo:rustc-cfg=older");
     }
 }
 
-/// A copy of the library by that name, with a prefix before the names of all that it defines.
-fn link(library: &Path, out: &Path, name: &str, prefix: &str) {
+fn link(library: &Path, name: &str) {
+    println!("cargo:rerun-if-changed={}", library.display());
+    println!("cargo:rustc-link-lib=static={name}");
+}
+
+/// A copy of the library with a prefix before the name of each function that it defines.
+fn rename(library: &Path, copy: &Path, prefix: &str) {
     let defined = told("nm", &["-g".as_ref(), "--defined-only".as_ref(), library]);
     let functions = defined.lines().filter_map(|line| line.rsplit_once(" T ")).map(|(_, function)| function);
     let renamed: Vec<String> = functions.map(|function| format!("--redefine-sym={function}={prefix}{function}")).collect();
-    let copy = out.join(format!("lib{name}.a"));
-    let arguments: Vec<&Path> = renamed.iter().map(Path::new).chain([library, &copy]).collect();
+    let arguments: Vec<&Path> = renamed.iter().map(Path::new).chain([library, copy]).collect();
     told("objcopy", &arguments);
-    println!("cargo:rustc-link-search=native={}", out.display());
-    println!("cargo:rustc-link-lib=static={name}");
-    println!("cargo:rerun-if-changed={}", library.display());
 }
 
 /// What a command writes.
