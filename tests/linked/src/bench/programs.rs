@@ -18,7 +18,12 @@ pub fn measure(newer: &Path, older: Option<&Path>, formulas: &[&Input], procedur
     let own = std::env::current_exe().expect("a program knows where it is");
     let rust = own.parent().expect("a program is in a folder").to_path_buf();
     let built = |folder: &Path, program: &str| folder.join("target/bin").join(program);
-    let older = older.filter(|older| PROGRAMS.iter().all(|program| built(older, program).is_file()));
+    let has_both = |folder: &Path| PROGRAMS.iter().all(|program| built(folder, program).is_file());
+    if !has_both(newer) {
+        println!("\nNo programs were measured: {} has none in target/bin.", newer.display());
+        return;
+    }
+    let older = older.filter(|older| has_both(older));
     let scratch = scratch::enter();
     let older_name = older.map(|_| "older program");
     let names: Vec<&str> = ["program's time"].into_iter().chain(older_name).chain(["Rust program", "empty program"]).collect();
