@@ -24,6 +24,7 @@ pub fn measure(newer: &Path, older: Option<&Path>, formulas: &[&Input], procedur
         return;
     }
     let older = older.filter(|older| has_both(older));
+    let here = std::env::current_dir().expect("the working directory is there");
     let scratch = scratch::enter();
     let older_name = older.map(|_| "older program");
     let names: Vec<&str> = ["program's time"].into_iter().chain(older_name).chain(["Rust program", "empty program"]).collect();
@@ -36,6 +37,7 @@ pub fn measure(newer: &Path, older: Option<&Path>, formulas: &[&Input], procedur
             program_row(program, input, &contenders, &rust.join("empty"));
         }
     }
+    std::env::set_current_dir(here).expect("the working directory is still there");
     std::fs::remove_dir_all(scratch).expect("the scratch folder can be removed");
 }
 
