@@ -1,6 +1,8 @@
 // The answer's calls: any file, any lent tree, any answer and any buffer. Each puts its questions in document 01's order and hands back
 // the number of the first that is not met, or its values; on a refusal nothing lent has changed. `own` is what `questions` prepares: the table
 // with its own records and its counts.
+#![tactic(auto)]
+
 ghost use Rattle.std.specs.Prelude.{◌≡◌, ◌≤◌, leb, length};
 ghost use Rattle.lists.specs.List.{all};
 ghost use Rattle.index.specs.Index.{index_of};
@@ -17,13 +19,13 @@ pub const VALUES_LEAST: usize = MOST_VARIABLES;
 pub const LISTING_LEAST: usize = 24576;
 
 // The answers: the number of a question that is not met, or the values.
-#[derive(Drop)]
+#[derive(Clone, Copy)]
 pub enum Taken {
     Refused(usize),
     Values(usize),
 }
 
-#[derive(Drop)]
+#[derive(Clone, Copy)]
 pub enum Listed {
     Refused(usize),
     Written(usize),

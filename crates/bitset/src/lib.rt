@@ -1,6 +1,8 @@
 // Sets of numbers as words: number i is binary bit i % 64 of word i / 64. Every function takes any number of words, and none of them
 // asks anything of its caller. Each contract gives the result and the later words outright; what that says of members stands in
 // specs/Promises.
+#![tactic(auto)]
+
 ghost use Rattle.std.specs.Prelude.{◌≡◌, ◌*◌, ◌%◌, ◌^◌, min, length};
 ghost use Rattle.bitset.specs.Set.{contains, members_below, members, inserted, union, difference, Listed};
 

@@ -1,5 +1,7 @@
 // What the program of stored cases works out by itself: the fields of a case's line, counts that are within a buffer, and the checksum that
 // stands for a buffer too long to print. Every contract gives the outcome outright.
+#![tactic(auto)]
+
 ghost use Rattle.std.specs.Prelude.{◌≡◌, [], length, take, slice_index_or};
 ghost use Rattle.lines.specs.Parts.{split};
 ghost use Rattle.io.specs.Counts.{IsPrefixLen};

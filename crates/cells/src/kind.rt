@@ -8,7 +8,7 @@ ghost use Rattle.cells.specs.Kind.{IsKind, is_comment, IsWordIn, IsWord, Passed}
 use lines::cut;
 
 // `c` alone; or the letter, a space and more.
-#[derive(Drop)]
+#[derive(Clone, Copy)]
 pub enum Kind {
     Comment,
     Word,
@@ -93,7 +93,7 @@ fn is_text(s: &[u8], a: usize, b: usize, t: &[u8]) -> bool
 }
 
 // SATISFIABLE, one of the other two words, or none of them.
-#[derive(Drop)]
+#[derive(Clone, Copy)]
 pub enum Word {
     Satisfiable,
     Other,

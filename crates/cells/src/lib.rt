@@ -1,5 +1,7 @@
 // Reads the solver's answer: questions 12 to 14, and the values. There is a cell for each variable: its value, or 2 where it has not
 // stood yet. Question 12 goes over the whole file first, so a number that question 14 does not take is only noted.
+#![tactic(auto)]
+
 mod kind;
 mod number;
 
@@ -75,7 +77,7 @@ fn put(cells: &mut [u8], n: usize, v: usize, sign: bool) -> bool
 
 // How far an answer is read after SATISFIABLE: is it formed so far, was the 0 read, did a number stand that is of no variable or of one
 // that stood before?
-#[derive(Drop)]
+#[derive(Clone, Copy)]
 struct State {
     formed: bool,
     ended: bool,

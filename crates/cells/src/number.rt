@@ -7,7 +7,7 @@ ghost use Rattle.solver.specs.Number.{number_of};
 ghost use Rattle.cells.specs.Number.{literal_from, with_sign, digits_from, short, numeral_from};
 
 // What a number says: a variable, and whether it is true; None where the bytes are no number.
-#[derive(Drop)]
+#[derive(Clone, Copy)]
 pub enum Number {
     None,
     Literal(usize, bool),

@@ -1,5 +1,7 @@
 // The literals of one clause, by its place, written as numbers: 2 * v for variable v, 2 * v + 1 for v negated. `ws` is the table
 // and `ix` its index.
+#![tactic(auto)]
+
 mod letters;
 pub mod lookup;
 mod slots;

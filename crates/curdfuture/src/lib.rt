@@ -2,6 +2,8 @@
 // number of the question that is not met, or 0 where all are, and lays its values into numbers that the caller lends; on a refusal these
 // too stay as they were. A slice is passed as a pointer and a length, a record of the tree as five 64-bit words in the order of its fields. The
 // functions over records are straight lines, proved by hand: the call, and a covered function that tells its answer as numbers.
+#![tactic(auto)]
+
 ghost use Rattle.std.specs.Prelude.{◌≡◌, [], ◌∷◌};
 ghost use Rattle.encoding.specs.Calls.{checking, built_from, building, tree_after, text_from, writing, text_after, writing_formula, formula_after};
 ghost use Rattle.answer.specs.Calls.{taken_from, taking, values_after, listed_from, showing, listing_after, showing_answer, answer_listing_after};

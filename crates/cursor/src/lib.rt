@@ -1,5 +1,7 @@
 // The clause cursor: seven numbers by value. Its method hands back the next clause's place and itself advanced. `ws` is the table
 // and `ix` its index.
+#![tactic(auto)]
+
 ghost use Rattle.std.specs.Prelude.{◌≡◌, ◌+◌, ◌≤◌, ◌<◌, length, get_or};
 ghost use Rattle.places.specs.Nest.{at};
 ghost use Rattle.places.specs.ClausePlace.{nodes_in, slot_at};
@@ -11,7 +13,7 @@ ghost use Rattle.cursor.specs.Cursor.{of_pos, at_end, next_of, Means, Stands, In
 
 // A place among the clauses: rule, node, letter, row and clause of the row; and how many clauses the row has, worked out once a row. As a
 // cursor it stands just behind the last clause handed out.
-#[derive(Drop)]
+#[derive(Clone, Copy)]
 pub struct Cursor {
     pub rule: usize,
     pub node: usize,
@@ -22,7 +24,7 @@ pub struct Cursor {
     pub len: usize,
 }
 
-#[derive(Drop)]
+#[derive(Clone, Copy)]
 pub enum Next {
     Clause(Cursor, Cursor),
     End,
@@ -269,7 +271,7 @@ pub fn count_all(ws: &[u64], ix: &[u64]) -> usize
 
 // Seeking --------------------------------------------------------------------------------------------------------------------
 // A cursor, and how many clauses from it on are still to be passed over.
-#[derive(Drop)]
+#[derive(Clone, Copy)]
 pub struct Sought {
     pub cursor: Cursor,
     pub left: usize,

@@ -1,6 +1,8 @@
 // The formula part's calls: any file, any lent tree, any line and any buffer. Each puts its questions in document 01's order and hands
 // back the number of the first that is not met, or its values; on a refusal nothing lent has changed. `own` is what `questions` prepares: the
 // table with its own records and its counts.
+#![tactic(auto)]
+
 ghost use Rattle.std.specs.Prelude.{◌≡◌, ◌≤◌, length};
 ghost use Rattle.planning.specs.Clause.{formula};
 ghost use Rattle.index.specs.Index.{index_of};
@@ -16,19 +18,19 @@ use questions::{INDEX_WORDS, MOST_NODES, OWN_WORDS, SMALL_INDEX};
 pub const TEXT_LEAST: usize = 1024;
 
 // The answers: the number of a question that is not met, or the values.
-#[derive(Drop)]
+#[derive(Clone, Copy)]
 pub enum Checked {
     Refused(usize),
     Accepted(usize, usize, usize),
 }
 
-#[derive(Drop)]
+#[derive(Clone, Copy)]
 pub enum Built {
     Refused(usize),
     Nodes(usize),
 }
 
-#[derive(Drop)]
+#[derive(Clone, Copy)]
 pub enum Text {
     Refused(usize),
     Written(usize, usize),

@@ -1,5 +1,7 @@
 // The form of a table file: names, lists, fields and lines, and questions 2 and 3. A part is two places of the file, as in crate `lines`.
 // Inside the reader: crates `outline` and `rows` call what is lent here, and other crates use the contracts of `table`.
+#![tactic(auto)]
+
 ghost use Rattle.std.specs.Prelude.{◌≡◌, ◌≤◌, length};
 ghost use Rattle.std.proofs.Math.Seq.{slice};
 ghost use Rattle.lists.specs.List.{all};
@@ -225,7 +227,7 @@ pub fn line_begins(s: &[u8], a: usize, b: usize, c: u8) -> bool
     s[a] == c
 }
 
-#[derive(Drop)]
+#[derive(Clone, Copy)]
 pub struct Field {
     pub from: usize,
     pub to: usize,

@@ -1,4 +1,6 @@
 // Look-ups in the index: one read each. What stands where is in specs/Index.
+#![tactic(auto)]
+
 ghost use Rattle.std.specs.Prelude.{◌≡◌, ◌≤◌, ◌<◌, get_or};
 ghost use Rattle.index.specs.Index.{nodes_in, slots_in, first_fact_in, node_word_in, slot_node_in, meanings_at, meaning_in, Few};
 

@@ -1,6 +1,8 @@
 // The index of a table, written into lent words out of the table's records. Each `put_` function writes from place `at` on, returns the
 // place behind what it wrote and leaves every other word as it was. The table's words are lent beside the tree's wherever a contract
 // speaks of the table.
+#![tactic(auto)]
+
 ghost use Rattle.std.specs.Prelude.{◌≡◌, [], ◌∷◌, ◌+◌, ◌-◌, ◌*◌, ◌≤◌, ◌<◌, length, get_or, replicate};
 ghost use Rattle.lists.specs.List.{cons_if, concat_map};
 ghost use Rattle.lists.specs.Written.{Wrote};

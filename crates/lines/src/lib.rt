@@ -1,5 +1,7 @@
 // Bytes, parts and lines of a file, as every reader of a file needs them. A part is two places a and b, and means the bytes from a up
 // to, not including, b. Nothing here knows what the file is.
+#![tactic(auto)]
+
 ghost use Rattle.std.specs.Prelude.{◌≡◌, ◌+◌, ◌≤◌, length};
 ghost use Rattle.std.proofs.Math.Seq.{slice};
 ghost use Rattle.lines.specs.Bytes.{same_bytes};

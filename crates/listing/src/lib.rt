@@ -1,5 +1,7 @@
 // The listing of a procedure, read from values node by node. `ws` is the table that was read from `file`, where the names stand, `ix` its
 // index and `tree` its records. Each `put_` function writes from a place on and leaves every other byte as it was.
+#![tactic(auto)]
+
 ghost use Rattle.std.specs.Prelude.{◌≡◌, [], ◌∷◌, ◌++◌, ◌+◌, ◌≤◌, ◌<◌, length, get_or};
 ghost use Rattle.lists.specs.Written.{Wrote};
 ghost use Rattle.planning.specs.Text.{decimal};
@@ -10,7 +12,7 @@ ghost use Rattle.listing.specs.Listing.{shown_names, job_line, step_line};
 ghost use Rattle.listing.specs.Walk.{first_true, step_rows, job_rows, rows_at, walked, value_of, Listable, Ready, WroteRows};
 
 // How far the listing is: the place behind what is written, and how many steps are done.
-#[derive(Drop)]
+#[derive(Clone, Copy)]
 struct Reached {
     at: usize,
     steps: usize,

@@ -1,5 +1,7 @@
 // Question 15: is every clause satisfied by these values? `ws` is the table and `ix` its index. Variable v's value stands at
 // place v - 1: 1 if it is true.
+#![tactic(auto)]
+
 mod row;
 
 ghost use Rattle.std.specs.Prelude.{◌≡◌, length};

@@ -1,6 +1,8 @@
 // The lent tree records, one a node: a slice of node structs behind a few thin functions. Each that is lent the slice is proved by hand. The
 // crates above keep the table's own records as words, five a record: of a lent slice they take the length, and what its records hold goes
 // through these functions alone.
+#![tactic(auto)]
+
 ghost use Rattle.std.specs.Prelude.{◌≡◌, ◌&&◌, ◌+◌, ◌*◌, ◌≤◌, ◌<◌, length, set, get_or};
 ghost use Rattle.nodes.specs.Nodes.{record_at, laid, same_to};
 ghost use Rattle.nodes.specs.Tree.{blank, same_node};
@@ -8,7 +10,7 @@ ghost use Rattle.nodes.specs.Tree.{blank, same_node};
 // Document 01's record of a node: its depth, its parent's number, its child count, the sets of steps and of jobs it may hold.
 // Other languages lend it too, so its fields lie in this order.
 #[repr(C)]
-#[derive(Drop)]
+#[derive(Clone, Copy)]
 pub struct Node {
     pub depth: u64,
     pub parent: u64,

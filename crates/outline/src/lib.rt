@@ -1,5 +1,7 @@
 // The outline of a table file: its sections by counts and places, the parts where names are declared, the look-up of a name, and
 // questions 2 to 6. A part is two places of the file, as in crate `lines`. Inside the reader, as crate `grammar` is.
+#![tactic(auto)]
+
 ghost use Rattle.std.specs.Prelude.{◌≡◌, true, ◌+◌, ◌≤◌, ◌<◌, length};
 ghost use Rattle.std.proofs.Math.Seq.{slice};
 ghost use Rattle.lists.specs.List.{all};
@@ -31,7 +33,7 @@ pub const MOST_IN_BODY: usize = 8;
 pub const MOST_NAMES: usize = MOST_FACTS + MOST_STEPS + MOST_JOBS;
 
 // How many lines, and the place of the line after them.
-#[derive(Drop)]
+#[derive(Clone, Copy)]
 struct Run {
     lines: usize,
     next: usize,
@@ -60,7 +62,7 @@ fn count_lines(s: &[u8], at: usize, c: u8) -> Run
 }
 
 // How many lines of each letter the file has, and where the S, the T, the M and the last lines begin.
-#[derive(Drop)]
+#[derive(Clone, Copy)]
 pub struct Shape {
     pub facts: usize,
     pub steps: usize,
@@ -173,7 +175,7 @@ fn first_unmet(s: &[u8], h: Shape) -> usize
 }
 
 // Where a name stands: its first byte's place and its size.
-#[derive(Drop)]
+#[derive(Clone, Copy)]
 struct Span {
     start: usize,
     size: usize,
@@ -203,7 +205,7 @@ fn name_of(s: &[u8], a: usize, b: usize) -> Span
 pub type Places = [usize; MOST_NAMES];
 
 // Where the names of the first lines stand: those of F lines, then of S lines, then of T lines.
-#[derive(Drop)]
+#[derive(Clone, Copy)]
 pub struct Spans {
     pub start: Places,
     pub size: Places,
@@ -277,7 +279,7 @@ fn are_new<'a>(s: &[u8], start: &'a Places, size: &'a Places, lo: usize, hi: usi
 }
 
 // The kind in which a name is wanted; a task is a step or a job.
-#[derive(Drop)]
+#[derive(Clone, Copy)]
 pub enum Kind {
     Fact,
     Step,
@@ -309,7 +311,7 @@ pub fn look_up<'a>(
 }
 
 // The first of questions 2 to 6 that is not met, or 0; then the shape of the file and the names that it declares.
-#[derive(Drop)]
+#[derive(Clone, Copy)]
 pub struct Outline {
     pub question: usize,
     pub shape: Shape,

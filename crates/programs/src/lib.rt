@@ -1,6 +1,8 @@
 // What the programs `formula` and `procedure` do: read a file whole, work out what is to be written, and write it. What is written is a
 // definition's value for every file (specs/Output); that the operating system takes it all is not known here, so a short write is told on
 // standard error. A program has no exit status: whoever runs it takes a line there for a failure.
+#![tactic(auto)]
+
 ghost use Rattle.std.specs.Prelude.{◌≡◌, ℕ, ◌≤◌, ◌<◌, [], ◌∷◌, length};
 ghost use Rattle.lists.specs.Written.{Wrote};
 ghost use Rattle.questions.specs.Questions.{taken};
@@ -79,7 +81,7 @@ fn put_refused(text: &mut [u8], question: usize) -> usize
 }
 
 // A part of what `formula` writes: how many bytes it has, the line that comes behind it, and whether there is none.
-#[derive(Drop)]
+#[derive(Clone, Copy)]
 pub struct Part {
     pub used: usize,
     pub next: usize,

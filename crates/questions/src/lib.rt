@@ -1,5 +1,7 @@
 // The questions that several calls above put to a table file, 2 to 9, each asked here alone; and the accepted table as words that the calls lend
 // on (`own`): its records in front, five words a node, then the table, then what was counted. specs/Own says where each word stands.
+#![tactic(auto)]
+
 ghost use Rattle.std.specs.Prelude.{◌≡◌, cond, [], ◌∷◌, ◌++◌, ◌+◌, ◌*◌, ◌≤◌, leb, length, get_or};
 ghost use Rattle.lists.specs.Written.{Wrote};
 ghost use Rattle.table.specs.Layout.{table_words, table_in};

@@ -1,6 +1,8 @@
 // The lines of a table file as words, and question 7: fact lists as sets, bodies as tasks, the start, the root job and the depth. What
 // looks a name up asks that questions 2 to 6 are met (`Ready`); the read of crate `table` puts them first. Each `put_` function writes words
 // from a place on and leaves those before it as they were. Inside the reader, as crate `grammar` is.
+#![tactic(auto)]
+
 ghost use Rattle.std.specs.Prelude.{◌≡◌, ◌&&◌, ◌+◌, ◌-◌, ◌*◌, ◌≤◌, length, get_or};
 ghost use Rattle.std.proofs.Math.Seq.{slice};
 ghost use Rattle.lines.specs.Parts.{lines_of};
@@ -32,7 +34,7 @@ pub fn both(a: bool, b: bool) -> bool
 }
 
 // A list of facts: whether question 7 is met, and the set.
-#[derive(Drop)]
+#[derive(Clone, Copy)]
 struct Facts {
     ok: bool,
     set: FactSet,
@@ -73,7 +75,7 @@ fn fact_set<'a>(
 }
 
 // An S line: whether question 7 is met, and its sets.
-#[derive(Drop)]
+#[derive(Clone, Copy)]
 struct StepSets {
     ok: bool,
     needs: FactSet,
@@ -174,7 +176,7 @@ pub fn put_steps<'a>(
 }
 
 // A body: whether question 7 is met, and how many tasks it has.
-#[derive(Drop)]
+#[derive(Clone, Copy)]
 struct Body {
     ok: bool,
     size: usize,
@@ -290,7 +292,7 @@ fn digit_of(s: &[u8], a: usize, b: usize) -> usize
 }
 
 // The I line and the R line: whether question 7 is met, the set, the root job and the depth.
-#[derive(Drop)]
+#[derive(Clone, Copy)]
 pub struct Ends {
     pub ok: bool,
     pub start: FactSet,

@@ -1,4 +1,6 @@
 // How long the loops are that the cursor goes through: by rule, node, letter and row. `ws` is the table and `ix` its index.
+#![tactic(auto)]
+
 ghost use Rattle.std.specs.Prelude.{◌≡◌, cond, ◌+◌, ◌≤◌, ◌<◌, eqb, length, get_or};
 ghost use Rattle.bitset.specs.Set.{members};
 ghost use Rattle.planning.specs.Accepted.{Accepted};

@@ -1,5 +1,7 @@
 // Runs stored cases through what the programs run, and through the calls below it. A case is a line of `index`: its kind, a table, an answer
 // or `-`, and numbers, with tabs between. It writes the line and, on the lines behind it, the outcome.
+#![tactic(auto)]
+
 mod calls;
 mod print;
 mod reader;

@@ -1,6 +1,8 @@
 // The reader of table files: any bytes are turned down by the first unmet of questions 2 to 7, or become a table, which is words by value.
 // Crates above know a table through the calls below alone, whose contracts speak of the table of `planning` that its words hold (`table_in`);
 // where each word stands is said in specs/Layout. No look-up asks anything of the words or the numbers that it is handed.
+#![tactic(auto)]
+
 ghost use Rattle.std.specs.Prelude.{◌≡◌, cond, ◌&&◌, ltb, ◌+◌, ◌*◌, ◌≤◌, ◌<◌, min, length, get_or, take, drop};
 ghost use Rattle.std.proofs.Math.Option.{some};
 ghost use Rattle.std.proofs.Math.ListN.{get_elem?};
@@ -37,7 +39,7 @@ pub const TABLE_WORDS: usize = PARTS_AT + 2 * MOST_NAMES;
 pub type Words = [u64; TABLE_WORDS];
 
 // The number of the first question that is not met, 0 where all are met; then the table that was read.
-#[derive(Drop)]
+#[derive(Clone, Copy)]
 pub struct Outcome {
     pub question: usize,
     pub table: Words,
@@ -242,7 +244,7 @@ pub fn body_size(ws: &[u64], m: usize) -> usize
 }
 
 // A task of a body: a step or a job by its number, or nothing where the body has no such place.
-#[derive(Drop)]
+#[derive(Clone, Copy)]
 pub enum Task {
     Step(usize),
     Job(usize),

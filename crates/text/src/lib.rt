@@ -1,4 +1,6 @@
 // The lines of a formula, written from a given line on, as many as fit. `ws` is the table and `ix` its index.
+#![tactic(auto)]
+
 ghost use Rattle.std.specs.Prelude.{◌≡◌, ◌+◌, ◌≤◌, ◌<◌, length};
 ghost use Rattle.lists.specs.Written.{Wrote};
 ghost use Rattle.planning.specs.Clause.{formula};
@@ -11,7 +13,7 @@ ghost use Rattle.text.specs.Lines.{line_at, lines_from, if_fits, Put, PutText};
 use cursor::{Cursor, Next};
 
 // How many bytes are used, and the line that comes next.
-#[derive(Drop)]
+#[derive(Clone, Copy)]
 pub struct Lines {
     pub used: usize,
     pub next: usize,

@@ -1,4 +1,6 @@
 // The tree of places as words, five a record: counted and written in one visit, up to 1,024 nodes.
+#![tactic(auto)]
+
 ghost use Rattle.std.specs.Prelude.{◌≡◌, cond, ◌&&◌, [], ◌∷◌, ◌+◌, ◌-◌, ◌*◌, ◌≤◌, ◌<◌, max, eqb, ltb, length, get_or};
 ghost use Rattle.std.proofs.Math.ListN.{get_elem?};
 ghost use Rattle.lists.specs.Written.{Wrote};
@@ -12,14 +14,14 @@ ghost use Rattle.tree.specs.Visit.{VisitedTree, Put};
 use table::Task;
 
 // What a node may hold: a word for its steps and a word for its jobs.
-#[derive(Drop)]
+#[derive(Clone, Copy)]
 pub struct Label {
     pub steps: u64,
     pub jobs: u64,
 }
 
 // How many nodes, variables of nodes and slots have been counted.
-#[derive(Drop)]
+#[derive(Clone, Copy)]
 pub struct Count {
     pub nodes: usize,
     pub variables: usize,

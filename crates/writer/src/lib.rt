@@ -1,6 +1,8 @@
 // The lines of a formula, written as bytes into a lent buffer. Each `put_` function writes from place `at` on, returns the place behind
 // what it wrote and leaves every other byte as it was; each `_size` function tells how many bytes that is. A literal travels as one
 // number: 2 * v for variable v, 2 * v + 1 for v negated.
+#![tactic(auto)]
+
 ghost use Rattle.std.specs.Prelude.{◌≡◌, [], ◌∷◌, ◌++◌, ◌+◌, ◌/◌, ◌%◌, ◌≤◌, ◌<◌, leb, length};
 ghost use Rattle.lists.specs.Written.{Wrote};
 ghost use Rattle.planning.specs.Text.{decimal, lit_text, clause_line, header_line};
