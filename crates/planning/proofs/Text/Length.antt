@@ -1,6 +1,6 @@
 -- Every line of an accepted table's text has at most 1,024 bytes, so that it fits into the smallest buffer that is taken.
 -- The header by its two numerals, a clause's line literal by literal.
-use mathlib.Core.Path.{sym, subst}
+use mathlib.Core.Path.{◌≡◌, sym, subst}
 use mathlib.Core.List.{List, [], ◌∷◌, ◌++◌}
 use mathlib.Core.Logic.{inl, inr}
 use Prim.Native.Nat.{ℕ, ◌*◌, ◌^◌, ◌≤◌, ◌<◌, suc, zero}
@@ -81,7 +81,8 @@ module _ (T : Table) (accepted : Accepted T) where
   -- the first line of a call fits, so a call gets on
   gets_on : (j n : ℕ) → 1024 ≤ n → j < length (lines T) → j < next_line T j n
   gets_on j n h l =
-      let first : get_or (drop j (lines T)) 0 [] ∈ lines T = rw (get_or-drop, add-zero) (in_get_d j (lines T) [] l) in
+      let e : get_or (drop j (lines T)) 0 [] ≡ get_or (lines T) j [] = rw (get_or-drop, add-zero) in
+      let first : get_or (drop j (lines T)) 0 [] ∈ lines T = subst (λ (z : List ℕ). z ∈ lines T) (sym e) (in_get_d j (lines T) [] l) in
       let c = call T j n in
       let k = some_fits n (drop j (lines T)) c.count (omega (arith, length-drop j (lines T))) (omega (arith, line_length (get_or (drop j (lines T)) 0 []) first)) c.fitting in
       omega (arith, c.next)
