@@ -1,0 +1,7 @@
+-- `clause::slots::sets` meets its contract. A set's members are the facts.
+-- Assumes nothing.
+use Rattle.clause.proofs.Facts.{has_is}
+use Rattle.clause.proofs.slots.sets.Goals as goal
+
+pub returns : goal.returns
+returns c = has_is c.sets-facts.result c.args.f c.sets-facts.ensures c.has.ensures
