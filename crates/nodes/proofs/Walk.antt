@@ -1,9 +1,9 @@
--- Pieces that the walks share: the types of a function's locals, the parts of its body, a step that the kit lacks.
+-- Pieces that the walks share: the types of a function's locals, a step that the kit lacks.
 -- Assumes nothing.
 use mathlib.Core.List.{List, [], ◌∷◌}
 use Prim.Native.Nat.{ℕ, zero, suc}
 use seplogic.Ra.Ura.{Ura}
-use mir.Syntax.{Ty, ty_unit, Local, local, Width, int_big, Body, skip, seq, assign, block, loop, cond, switch, exit, return, call}
+use mir.Syntax.{Ty, ty_unit, Local, local, Width, int_big}
 use mir.Val.{vint, Fits}
 use base.Logic.{via, guard_i}
 use prog.Wp.{Env}
@@ -25,44 +25,6 @@ first (τ ∷ τs) = τ
 
 abbrev pub type_in : RattleType → Ty
 type_in X = first X.mir
-
--- what a body begins with, and what comes after that
-abbrev pub head : Body → Body
-head skip = skip
-head (seq a b) = a
-head (assign p r) = skip
-head (block b) = skip
-head (loop b) = skip
-head (cond c a b) = skip
-head (switch c s) = skip
-head (exit k) = skip
-head return = skip
-head (call f xs d) = skip
-
-abbrev pub after : Body → Body
-after skip = skip
-after (seq a b) = b
-after (assign p r) = skip
-after (block b) = skip
-after (loop b) = skip
-after (cond c a b) = skip
-after (switch c s) = skip
-after (exit k) = skip
-after return = skip
-after (call f xs d) = skip
-
--- what a block or a loop holds
-abbrev pub inside : Body → Body
-inside skip = skip
-inside (seq a b) = skip
-inside (assign p r) = skip
-inside (block b) = b
-inside (loop b) = b
-inside (cond c a b) = skip
-inside (switch c s) = skip
-inside (exit k) = skip
-inside return = skip
-inside (call f xs d) = skip
 
 -- a constant of several digits
 module _ {M : Type 1} {𝓤 : Ura M} {𝓛 : Logic 𝓤} {K : Type 0} {Γ : List (Item 𝓤)} {E : Env 𝓤 𝓛.H} where

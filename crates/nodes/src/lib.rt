@@ -1,6 +1,6 @@
-// The lent tree records, one a node: a slice of node structs behind a few thin functions. Each that is lent the slice is proved by hand. The
-// crates above keep the table's own records as words, five a record: of a lent slice they take the length, and what its records hold goes
-// through these functions alone.
+// The lent tree records, one a node: a slice of node structs behind a few thin functions. The crates above keep
+// the table's own records as words, five a record: of a lent slice they take the length, and what its records hold goes through these
+// functions alone.
 #![tactic(auto)]
 
 ghost use Rattle.std.specs.Prelude.{◌≡◌, ◌&&◌, ◌+◌, ◌*◌, ◌≤◌, ◌<◌, length, set, get_or};
@@ -51,6 +51,7 @@ fn node_at(flat: &[u64], i: usize) -> Node
 }
 
 // The first n records are those of flat; the others stay.
+#[tactic(auto, using(crate::proofs::Laws::laid_none, crate::proofs::Laws::laid_more, crate::proofs::Laws::length_laid))]
 pub fn scatter<'a, 'b>(ns: &'a mut [Node], flat: &'b [u64], n: usize)
     requires { (n < 65536) × (n ≤ length ns.old) × (n * 5 ≤ length flat.now) }
     ensures { ns.new ≡ laid flat.now ns.old n }
@@ -87,6 +88,7 @@ fn and_same(flat: &[u64], i: usize, n: Node, ok: bool) -> bool
 }
 
 // Question 10: are the first n records those kept in these words?
+#[tactic(auto, using(crate::proofs::Same::same_none, crate::proofs::Same::same_more))]
 pub fn is_same<'a, 'b>(ns: &'a [Node], flat: &'b [u64], n: usize) -> bool
     requires { (n < 65536) × (n ≤ length ns.now) × (n * 5 ≤ length flat.now) }
     ensures { result ≡ same_to flat.now ns.now n }
