@@ -1,8 +1,9 @@
 -- `clause::letters::node_clause` meets its contract. Letter by letter.
 -- Assumes nothing.
-use mathlib.Core.Path.{refl}
+use mathlib.Core.Path.{◌≡◌, refl}
+use Prim.Native.Nat.{◌<◌}
 use native.Mathlib.Omega.{arith}
-use Rattle.shape.proofs.Groups.{letter_g, node_there}
+use Rattle.shape.proofs.Groups.{node_there}
 use Rattle.clause.proofs.Cases.{there, small}
 use Rattle.clause.proofs.letters.node_clause.Goals as goal
 
@@ -19,26 +20,27 @@ two_methods-requires c =
 pub methods_of_job-requires : goal.methods_of_job-requires
 methods_of_job-requires c =
     let h = there c.requires.0 c.args.x c.args.y c.args.i c.requires.1 in
-    (node_there c.requires.0 refl, rw c.in-2.keys3 at h.in_row, c.requires.2)
+    (node_there c.requires.0 refl, rw c.in-2.is at h.in_row, c.requires.2)
 
 pub body-requires : goal.body-requires
 body-requires c =
     let h = there c.requires.0 c.args.x c.args.y c.args.i c.requires.1 in
     let k = small c.requires.0 c.args.x c.args.y c.args.i c.requires.1 in
-    (node_there c.requires.0 refl, rw c.in-4.keys5 at h.in_x, rw c.in-4.keys5 at h.in_y, omega (arith, k.1), c.requires.2)
+    (node_there c.requires.0 refl, rw c.in-4.is at h.in_x, rw c.in-4.is at h.in_y, omega (arith, k.1), c.requires.2)
 
 pub pass-requires : goal.pass-requires
 pass-requires c =
     let h = there c.requires.0 c.args.x c.args.y c.args.i c.requires.1 in
     let k = small c.requires.0 c.args.x c.args.y c.args.i c.requires.1 in
-    (node_there c.requires.0 refl, rw c.in-5.keys6 at h.in_x, rw c.in-5.keys6 at h.in_y, omega (arith, k.1), c.requires.2)
+    (node_there c.requires.0 refl, rw c.in-5.is at h.in_x, rw c.in-5.is at h.in_y, omega (arith, k.1), c.requires.2)
 
 pub child_variable-requires : goal.child_variable-requires
 child_variable-requires c =
     let h = there c.requires.0 c.args.x c.args.y c.args.i c.requires.1 in
     let k = small c.requires.0 c.args.x c.args.y c.args.i c.requires.1 in
-    let r = c.in_default.rest in
-    (node_there c.requires.0 refl, rw (letter_g c.args.g c.requires.0.group r.0.0.0.0.0.1 r.0.0.0.0.1 r.0.0.0.1 r.0.0.1 r.0.1 r.1) at h.in_x, omega (arith, k.1))
+    let last : c.args.g < 7 = c.requires.0.group in
+    let e : c.args.g ≡ 6 = omega arith in
+    (node_there c.requires.0 refl, rw e at h.in_x, omega (arith, k.1))
 
 pub returns-in-2 : goal.returns-in-2
-returns-in-2 c = rw c.in-2.keys3 c.methods_of_job.ensures
+returns-in-2 c = rw c.in-2.is c.methods_of_job.ensures

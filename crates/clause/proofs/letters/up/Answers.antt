@@ -6,4 +6,4 @@ use Rattle.clause.proofs.letters.up.Goals as goal
 
 pub put-requires : goal.put-requires
 put-requires c =
-    (omega (arith, c.put_tasks-a.ensures.end, c.put_tasks-a.auto.1.1.0, tasks_most c.requires.0, c.requires.2), c.requires.1)
+    (omega (arith, c.put_tasks-a.ensures.end, tasks_most c.requires.0, c.requires.2), c.requires.1)

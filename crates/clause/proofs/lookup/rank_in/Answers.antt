@@ -1,6 +1,6 @@
 -- `clause::lookup::rank_in` meets its contract. The count of the members that are less is the place.
 -- Assumes nothing.
-use mathlib.Core.List.{◌∷◌}
+use mathlib.Core.List.{[], ◌∷◌}
 use Rattle.clause.proofs.Known.{rank_is}
 use Rattle.clause.proofs.lookup.rank_in.Goals as goal
 
