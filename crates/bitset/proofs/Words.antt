@@ -1,6 +1,6 @@
 -- Words combined with their partners in another list: what union and difference have in common.
 -- By recursion on both lists.
-use Rattle.std.proofs.Common.{◌≡◌, ℕ, zero, suc, ◌-◌, ◌<◌, ◌≤◌, List, [], ◌∷◌, length, get_or, take, set, sym, refl, ap, arith}
+use Rattle.std.proofs.Common.{◌≡◌, ℕ, zero, suc, ◌<◌, ◌≤◌, List, [], ◌∷◌, length, get_or, take, set, sym, refl, ap, arith}
 use Rattle.bitset.specs.Set.{onto}
 
 module _ (f : ℕ → ℕ → ℕ) where

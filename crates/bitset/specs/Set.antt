@@ -1,6 +1,6 @@
 -- Sets of numbers as words (the field's bit sets), for any number of words.
 -- Assumes nothing.
-use Rattle.std.specs.Prelude.{◌≡◌, ℕ, ◌-◌, ◌*◌, ◌/◌, ◌%◌, ◌^◌, min, Bool, List, [], ◌∷◌, ◌++◌, length, take, drop, set, replicate, ◌==◌, bit_and, bit_or, slice_index, slice_set}
+use Rattle.std.specs.Prelude.{◌≡◌, ℕ, ◌-◌, ◌*◌, ◌/◌, ◌%◌, ◌^◌, min, Bool, List, [], ◌∷◌, ◌++◌, length, take, drop, replicate, ◌==◌, bit_and, bit_or, slice_index, slice_set}
 use Rattle.lists.specs.List.{filter, up_to}
 
 -- binary digit i of the word w

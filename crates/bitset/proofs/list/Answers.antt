@@ -1,17 +1,18 @@
 -- `bitset::list` meets its contract. The loop's invariant: the members below i stand at the front. The measure is the numbers left.
 -- Assumes nothing.
-use Rattle.std.proofs.Common.{◌-◌, sym, ◌∙◌, ⊎_elim, arith, ltb-false, ltb-true}
+use Rattle.std.proofs.Common.{sym, ◌∙◌, arith, ltb-false, ltb-true}
 use Rattle.bitset.proofs.Loops.{written_member, written_other, written_full, written_all}
+use Rattle.bitset.proofs.list.Goals.{then-has, else-has}
 use Rattle.bitset.proofs.list.Goals as goal
 
 pub loop-i-preserved : goal.loop-i-preserved
 loop-i-preserved c =
     let u = c.loop-i.invariant in
     let l = c.loop-i-test.true in
-    ⊎_elim
-    (λ h. rw (h.1, h.2) (written_member u l (ltb-true _ _ c.if-r-out.true-raw) (sym c.has.ensures ∙ h.0.taken)))
-    (λ h. rw (h.1, h.2) (written_other u l (sym c.has.ensures ∙ h.0.left)))
-    c.if-has.branch
+    elim c.if-has.branch [
+      | then-has w ↦ rw (w.out-is, w.r-is) (written_member u l (ltb-true _ _ c.if-r-out.true-raw) (sym c.has.ensures ∙ w.if-has.true))
+      | else-has w ↦ rw (w.out-is, w.r-is) (written_other u l (sym c.has.ensures ∙ w.if-has.false))
+    ]
 
 pub returns-else-r-out : goal.returns-else-r-out
 returns-else-r-out c =

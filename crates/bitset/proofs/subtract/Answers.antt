@@ -1,6 +1,6 @@
 -- `bitset::subtract` meets its contract. The loop's invariant: the words before k are rid of their partners' members. The measure is the words left.
 -- Assumes nothing.
-use Rattle.std.proofs.Common.{◌-◌, ltb-true}
+use Rattle.std.proofs.Common.{ltb-true}
 use Rattle.bitset.proofs.Loops.{combined_none, combined_word, combined_words}
 use Rattle.bitset.proofs.subtract.Goals as goal
 

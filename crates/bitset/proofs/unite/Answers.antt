@@ -1,6 +1,6 @@
 -- `bitset::unite` meets its contract. The loop's invariant: the words before k are united with their partners. The measure is the words left.
 -- Assumes nothing.
-use Rattle.std.proofs.Common.{◌-◌, ltb-true}
+use Rattle.std.proofs.Common.{ltb-true}
 use Rattle.bitset.proofs.Loops.{combined_none, combined_word, combined_words}
 use Rattle.bitset.proofs.unite.Goals as goal
 

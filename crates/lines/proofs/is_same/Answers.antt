@@ -1,4 +1,3 @@
-use Prim.Native.Nat.{◌-◌}
 use native.Mathlib.Omega.{arith}
 use Rattle.lines.proofs.Same.{alike_not, alike_first, alike_out, alike_more, alike_done, ends_differ}
 use Rattle.lines.proofs.is_same.Goals as goal

@@ -1,6 +1,5 @@
 -- `writer::clause_size` meets its contract. The loop's invariant: n counts the bytes of the first i literals and of the line's end. The
 -- measure is the literals left. Assumes nothing.
-use Prim.Native.Nat.{◌-◌}
 use native.Mathlib.Omega.{arith}
 use Rattle.writer.proofs.Literals.{literal_most}
 use Rattle.writer.proofs.Loops.{counted_more}

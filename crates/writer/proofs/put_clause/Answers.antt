@@ -1,6 +1,5 @@
 -- `writer::put_clause` meets its contract. The loop's invariant: the first i literals are written, and there is room for the line. The
 -- measure is the literals left. Assumes nothing.
-use Prim.Native.Nat.{◌-◌}
 use Rattle.writer.proofs.Loops.{laid_room, laid_more}
 use Rattle.writer.proofs.put_clause.Goals as goal
 
