@@ -1,4 +1,4 @@
-/* The seven calls of Curdfuture for C: link target/staticlib/libcurdfuture.a, which `rt staticlib curdfuture` writes.
+/* The seven calls of Curdfuture for C: link target/staticlib/libcurdfuture.a, which `tools/build curdfuture` writes.
  *
  * From files alone, curdfuture_write_formula writes a table's formula and curdfuture_list_answer lists the procedure that a solver's
  * answer gives. The calls behind them leave the tree of places and the values in the caller's hands.

@@ -1,4 +1,4 @@
-//! Links the static library that `rt staticlib curdfuture` writes, or the one that the variable LIBRARY names. Where OLDER_LIBRARY names another
+//! Links the static library that `tools/build curdfuture` makes, or the one that the variable LIBRARY names. Where OLDER_LIBRARY names another
 //! one, that is linked too, with `older_` before the names of its functions.
 
 use std::path::{Path, PathBuf};
