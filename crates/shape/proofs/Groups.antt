@@ -17,17 +17,6 @@ use Rattle.places.proofs.Small.{Short, short, short_row, records_children}
 use Rattle.index.specs.Index.{source}
 use Rattle.shape.specs.Shape.{Indexed, node, InNode, InSlot, InGroup}
 
--- the last letter
-pub letter_g : (g : ℕ) → g < 7 → (g ≡ 0 → ⊥) → (g ≡ 1 → ⊥) → (g ≡ 2 → ⊥) → (g ≡ 3 → ⊥) → (g ≡ 4 → ⊥) → (g ≡ 5 → ⊥) → g ≡ 6
-letter_g zero h a b c d e f = absurd (a refl)
-letter_g (suc zero) h a b c d e f = absurd (b refl)
-letter_g (suc (suc zero)) h a b c d e f = absurd (c refl)
-letter_g (suc (suc (suc zero))) h a b c d e f = absurd (d refl)
-letter_g (suc (suc (suc (suc zero)))) h a b c d e f = absurd (e refl)
-letter_g (suc (suc (suc (suc (suc zero))))) h a b c d e f = absurd (f refl)
-letter_g (suc (suc (suc (suc (suc (suc zero)))))) h a b c d e f = refl
-letter_g (suc (suc (suc (suc (suc (suc (suc g))))))) h a b c d e f = absurd (omega arith)
-
 -- one row a column but for (e) and (f)
 pub one_row : (T : Table) (n : ℕ) (N : Node) (g : ℕ) → g < 7 → (g ≡ 4 → ⊥) → (g ≡ 5 → ⊥) → 1 ≡ (get_or (node_groups T n N) g no_group).ys
 one_row T n N zero h e f = refl

@@ -1,6 +1,6 @@
 -- `indexing::put_members` meets its contract. The loop's invariant: the members below i are written. The measure is the numbers left.
 -- Assumes nothing.
-use mathlib.Core.List.{◌∷◌}
+use mathlib.Core.List.{[], ◌∷◌}
 use Prim.Native.Nat.{◌-◌}
 use Rattle.bitset.specs.Set.{contains}
 use Rattle.indexing.proofs.Loops.{Picked}
