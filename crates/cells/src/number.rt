@@ -13,6 +13,7 @@ pub enum Number {
     Literal(usize, bool),
 }
 
+#[tactic(auto, using(crate::proofs::Numbers::digit_in, crate::proofs::Numbers::digit_under, crate::proofs::Numbers::digit_over))]
 fn is_digit(b: u8) -> bool
     ensures { result ≡ digit b }
 {

@@ -10,10 +10,10 @@ pub returns-then-b-m : goal.returns-then-b-m
 returns-then-b-m c = read_nothing c.args.answer.now c.args.n c.fits_and_ends.ensures (not-false _ c.if-not-fits_and_ends.false-raw) c.pass_comments-a.ensures c.cut-b.ensures c.if-b-m.true
 
 pub returns-in-Satisfiable : goal.returns-in-Satisfiable
-returns-in-Satisfiable c = read_satisfiable c.args.answer.now c.args.n c.fits_and_ends.ensures (not-false _ c.if-not-fits_and_ends.false-raw) c.pass_comments-a.ensures c.cut-b.ensures c.if-b-m.false (sym c.enum_told-1.given.1 ∙ c.word_of.ensures.is) c.read_values.ensures
+returns-in-Satisfiable c = read_satisfiable c.args.answer.now c.args.n c.fits_and_ends.ensures (not-false _ c.if-not-fits_and_ends.false-raw) c.pass_comments-a.ensures c.cut-b.ensures c.if-b-m.false (sym c.in-Satisfiable.is ∙ c.word_of.ensures.is) c.read_values.ensures
 
 pub returns-in-Other : goal.returns-in-Other
-returns-in-Other c = read_other c.args.answer.now c.args.n c.fits_and_ends.ensures (not-false _ c.if-not-fits_and_ends.false-raw) c.pass_comments-a.ensures c.cut-b.ensures c.if-b-m.false (sym c.enum_told-in-Other-1.given.1 ∙ c.word_of.ensures.is) c.read_others.ensures
+returns-in-Other c = read_other c.args.answer.now c.args.n c.fits_and_ends.ensures (not-false _ c.if-not-fits_and_ends.false-raw) c.pass_comments-a.ensures c.cut-b.ensures c.if-b-m.false (sym c.in-Other.is ∙ c.word_of.ensures.is) c.read_others.ensures
 
 pub returns-in-None : goal.returns-in-None
-returns-in-None c = read_wordless c.args.answer.now c.args.n c.fits_and_ends.ensures (not-false _ c.if-not-fits_and_ends.false-raw) c.pass_comments-a.ensures c.cut-b.ensures c.if-b-m.false (sym c.enum_told-in-None-1.given.1 ∙ c.word_of.ensures.is)
+returns-in-None c = read_wordless c.args.answer.now c.args.n c.fits_and_ends.ensures (not-false _ c.if-not-fits_and_ends.false-raw) c.pass_comments-a.ensures c.cut-b.ensures c.if-b-m.false (sym c.in-None.is ∙ c.word_of.ensures.is)

@@ -10,4 +10,4 @@ pub returns-then-e-b : goal.returns-then-e-b
 returns-then-e-b c = parts_last c.loop-state.invariant c.requires.1 c.cut-e.ensures c.read_part-state.ensures (not-false _ c.if-not-state.false) c.if-e-b.true
 
 pub loop-state-preserved : goal.loop-state-preserved
-loop-state-preserved c = parts_more c.loop-state.invariant c.requires.1 c.cut-e.ensures c.read_part-state.ensures (not-false _ c.if-not-state.false) c.if-e-b.false c.read_part-state.auto.1.1.1.0
+loop-state-preserved c = parts_more c.loop-state.invariant c.requires.1 c.cut-e.ensures c.read_part-state.ensures (not-false _ c.if-not-state.false) c.if-e-b.false c.read_part-state.auto.cells
