@@ -1,5 +1,4 @@
 use mathlib.Core.Path.{◌∙◌}
-use Prim.Native.Nat.{◌-◌}
 use Rattle.grammar.proofs.Names.{many_more, many_done, names_none, names_some}
 use Rattle.grammar.proofs.count_names.Goals as goal
 

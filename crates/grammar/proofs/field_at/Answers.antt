@@ -1,4 +1,3 @@
-use Prim.Native.Nat.{◌-◌}
 use Rattle.grammar.proofs.Lines.{at_none, at_more, at_done}
 use Rattle.grammar.proofs.field_at.Goals as goal
 

@@ -1,13 +1,13 @@
+use native.Mathlib.Omega.{arith}
 use mathlib.Core.Path.{◌∙◌}
-use Prim.Native.Nat.{◌-◌}
 use Rattle.grammar.proofs.Lines.{form_name, form_list, form_depth}
 use Rattle.grammar.proofs.has_form.Goals as goal
 
 pub returns-in-110 : goal.returns-in-110
-returns-in-110 c = c.is_name.ensures ∙ form_name _ _ c.in-110.keys1
+returns-in-110 c = c.is_name.ensures ∙ form_name _ _ c.in-110.is
 
 pub returns-in-108 : goal.returns-in-108
-returns-in-108 c = c.is_list.ensures ∙ form_list _ _ c.in-108.keys2
+returns-in-108 c = c.is_list.ensures ∙ form_list _ _ c.in-108.is
 
 pub returns-in_default : goal.returns-in_default
-returns-in_default c = c.is_depth.ensures ∙ form_depth _ _ c.in_default.rest.0.1 c.in_default.rest.1
+returns-in_default c = c.is_depth.ensures ∙ form_depth _ _ (λ e. omega (arith, e)) (λ e. omega (arith, e))

@@ -1,5 +1,4 @@
 use mathlib.Core.Path.{◌∙◌}
-use Prim.Native.Nat.{◌-◌}
 use Rattle.grammar.proofs.Names.{depth_not, depth_one}
 use Rattle.grammar.proofs.is_depth.Goals as goal
 

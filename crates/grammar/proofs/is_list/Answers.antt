@@ -1,5 +1,4 @@
 use mathlib.Core.Path.{◌∙◌}
-use Prim.Native.Nat.{◌-◌}
 use Rattle.grammar.proofs.Names.{list_none, list_names}
 use Rattle.grammar.proofs.is_list.Goals as goal
 

@@ -14,4 +14,6 @@ pub returns-then-not-is_lower : goal.returns-then-not-is_lower
 returns-then-not-is_lower c = let p = c.requires in name_start _ _ _ (ne_lt p.0 c.if-a-b.false) p.1 (said_no c.is_lower.ensures c.if-not-is_lower.true-raw)
 
 pub returns : goal.returns
-returns c = let p = c.requires in c.all_of_name.ensures ∙ name_rest _ _ _ (ne_lt p.0 c.if-a-b.false) p.1 c.if-b-a-gt12.false (said_yes c.is_lower.ensures c.if-not-is_lower.false-raw)
+returns c =
+    let p = c.requires in c.all_of_name.ensures ∙ name_rest _ _ _ (ne_lt p.0 c.if-a-b.false) p.1 c.if-b-a-gt12.false
+    (said_yes c.is_lower.ensures c.if-not-is_lower.false-raw)
