@@ -1,4 +1,3 @@
-use Prim.Native.Nat.{◌-◌}
 use Rattle.outline.proofs.Names.{news_out, news_more, news_done}
 use Rattle.outline.proofs.are_new.Goals as goal
 

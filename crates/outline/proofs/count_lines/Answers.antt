@@ -1,4 +1,3 @@
-use Prim.Native.Nat.{◌-◌}
 use Rattle.outline.proofs.Sections.{run_end, run_stop, run_more}
 use Rattle.lines.proofs.Lines.{from_last, from_end}
 use Rattle.lists.proofs.Order.{le_antisym}

@@ -15,7 +15,7 @@ returns-then-not-ends_in_order c =
     let if1 = c.if-not-are_lines in
     let ends-in-order = c.ends_in_order in
     let if2 = c.if-not-ends_in_order in
-    asked4 pre.0 pre.1 (said_yes are-lines.ensures if1.false) (said_no ends-in-order.ensures if2.true)
+    asked4 pre.0 pre.1 (said_yes are-lines.ensures if1.false-raw) (said_no ends-in-order.ensures if2.true-raw)
 
 pub returns-then-not-counts_fit : goal.returns-then-not-counts_fit
 returns-then-not-counts_fit c =
@@ -26,8 +26,8 @@ returns-then-not-counts_fit c =
     let if2 = c.if-not-ends_in_order in
     let counts-fit = c.counts_fit in
     let if3 = c.if-not-counts_fit in
-    asked5_counts pre.0 pre.1 (said_yes are-lines.ensures if1.false) (said_yes ends-in-order.ensures if2.false)
-    (said_no counts-fit.ensures if3.true)
+    asked5_counts pre.0 pre.1 (said_yes are-lines.ensures if1.false-raw) (said_yes ends-in-order.ensures if2.false-raw)
+    (said_no counts-fit.ensures if3.true-raw)
 
 pub bodies_fit-requires : goal.bodies_fit-requires
 bodies_fit-requires c =
@@ -45,8 +45,8 @@ returns-then-not-bodies_fit c =
     let if3 = c.if-not-counts_fit in
     let bodies-fit = c.bodies_fit in
     let if4 = c.if-not-bodies_fit in
-    asked5_bodies pre.0 pre.1 (said_yes are-lines.ensures if1.false) (said_yes ends-in-order.ensures if2.false)
-    (said_yes counts-fit.ensures if3.false) (said_no bodies-fit.ensures if4.true)
+    asked5_bodies pre.0 pre.1 (said_yes are-lines.ensures if1.false-raw) (said_yes ends-in-order.ensures if2.false-raw)
+    (said_yes counts-fit.ensures if3.false-raw) (said_no bodies-fit.ensures if4.true-raw)
 
 pub returns : goal.returns
 returns c =
@@ -59,5 +59,5 @@ returns c =
     let if3 = c.if-not-counts_fit in
     let bodies-fit = c.bodies_fit in
     let if4 = c.if-not-bodies_fit in
-    asked5_none pre.0 pre.1 (said_yes are-lines.ensures if1.false) (said_yes ends-in-order.ensures if2.false)
-    (said_yes counts-fit.ensures if3.false) (said_yes bodies-fit.ensures if4.false)
+    asked5_none pre.0 pre.1 (said_yes are-lines.ensures if1.false-raw) (said_yes ends-in-order.ensures if2.false-raw)
+    (said_yes counts-fit.ensures if3.false-raw) (said_yes bodies-fit.ensures if4.false-raw)

@@ -1,4 +1,3 @@
-use Prim.Native.Nat.{◌-◌}
 use Rattle.outline.proofs.Names.{entry_none, entry_some}
 use Rattle.outline.proofs.name_of.Goals as goal
 

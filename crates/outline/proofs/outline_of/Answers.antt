@@ -53,7 +53,7 @@ returns-then-not-are_new c =
     let refused3 = c.refused-then-not-are_new in
     let are-new = c.are_new in
     let if3 = c.if-not-are_new in
-    outlined_sixth _ _ find-shape.ensures _ first-unmet.ensures if2.false refused3.ensures (said_no are-new.ensures if3.true)
+    outlined_sixth _ _ find-shape.ensures _ first-unmet.ensures if2.false refused3.ensures (said_no are-new.ensures if3.true-raw)
 
 pub returns : goal.returns
 returns c =
@@ -63,4 +63,4 @@ returns c =
     let declare = c.declare-d in
     let are-new = c.are_new in
     let if3 = c.if-not-are_new in
-    outlined _ _ find-shape.ensures _ first-unmet.ensures if2.false _ declare.ensures (said_yes are-new.ensures if3.false)
+    outlined _ _ find-shape.ensures _ first-unmet.ensures if2.false _ declare.ensures (said_yes are-new.ensures if3.false-raw)
