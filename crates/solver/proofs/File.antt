@@ -1,6 +1,6 @@
 -- Every list of values is that of a formed answer: `s SATISFIABLE` and one `v` line.
 -- The file is put together, cut apart again, and its numbers put to the questions.
-use mathlib.Core.Path.{◌≡◌, refl, ap, ◌∙◌, subst}
+use mathlib.Core.Path.{◌≡◌, refl, sym, ap, ◌∙◌, subst}
 use mathlib.Core.Bool.{Bool, true, false, cond}
 use mathlib.Core.List.{List, [], ◌∷◌, ◌++◌, map, append-nil}
 use mathlib.Core.Option.{none, some}
@@ -101,7 +101,9 @@ times_one k n [] p q = absurd (omega arith)
 times_one k n (b ∷ bs) p q = go (ℕ_discrete k n) (λ h. times_one k (suc n) bs h (omega arith))
   where
     go : Dec (k ≡ n) → (suc n ≤ k → times k (literals (suc n) bs) ≡ 1) → times k (literal b n ∷ literals (suc n) bs) ≡ 1
-    go (yes e) f = rw (variable_literal b n, e, eqb_same n) (ap suc (times_none n (suc n) bs (omega arith)))
+    go (yes e) f =
+        subst (λ (j : ℕ). times j (literal b n ∷ literals (suc n) bs) ≡ 1) (sym e)
+        (rw (variable_literal b n, eqb_same n) (ap suc (times_none n (suc n) bs (omega arith))))
     go (no u) f = rw (variable_literal b n, eqb_other k n u) (f (omega arith))
 
 -- and each has its own value
@@ -115,10 +117,13 @@ any_none k n (b ∷ bs) h = rw (true_other k (literal b n) (λ e. omega (arith, 
 
 literals_true : (n i : ℕ) (vs : List Bool) → any (makes_true (n + i)) (literals n vs) ≡ get_or vs i false
 literals_true n i [] = refl
-literals_true n zero (b ∷ bs) = let z : n + 0 ≡ n = omega arith in rw (z, own_value b n, any_none n (suc n) bs (omega arith)) (or_off b)
+literals_true n zero (b ∷ bs) =
+    let z : n ≡ n + 0 = omega arith in
+    subst (λ (k : ℕ). any (makes_true k) (literals n (b ∷ bs)) ≡ b) z (rw (own_value b n, any_none n (suc n) bs (omega arith)) (or_off b))
 literals_true n (suc i) (b ∷ bs) =
     let z : suc n + i ≡ n + suc i = omega arith in
-    rw (true_other (n + suc i) (literal b n) (λ e. omega (arith, variable_literal b n))) (subst (λ (k : ℕ). any (makes_true k) (literals (suc n) bs) ≡ get_or bs i false) z (literals_true (suc n) i bs))
+    rw (true_other (n + suc i) (literal b n) (λ e. omega (arith, variable_literal b n)))
+    (subst (λ (k : ℕ). any (makes_true k) (literals (suc n) bs) ≡ get_or bs i false) z (literals_true (suc n) i bs))
 
 truths_literals : (vs : List Bool) → truths (length vs) (literals 1 vs) ≡ vs
 truths_literals vs = ext_get_or false (truths (length vs) (literals 1 vs)) vs (truths_length (length vs) (literals 1 vs)) (λ i h.

@@ -77,7 +77,8 @@ module _ (cs : List ℕ) (l : Lit) (ls : List Lit) (p : 1 ≤ variable_of l) (q 
     where
       at : (k : ℕ) → k < length cs → Dec (k ≡ i) → Cell (get_or cs k 0) (times (suc k) (l ∷ ls))
       at k h (no u) = rw (times_there k u, ← (there k u)) (g.cell k (omega (arith, same_length)))
-      at k h (yes z) = rw z (pick (g.cell i (omega (arith, same_length))))
+      at k h (yes z) =
+          subst (λ (j : ℕ). Cell (get_or cs j 0) (times (suc j) (l ∷ ls))) (sym z) (pick (g.cell i (omega (arith, same_length))))
         where
           pick : Cell (get_or ds i 0) (times (suc i) ls) → Cell (get_or cs i 0) (times (suc i) (l ∷ ls))
           pick (inl r) = absurd (omega (arith, r.0, here, bit_small (sign l)))
@@ -109,8 +110,9 @@ module _ (cs : List ℕ) (l : Lit) (ls : List Lit) (p : 1 ≤ variable_of l) (q 
       at : Dec (k ≡ i) → Out cs (l ∷ ls) k v
       at (yes z) =
           let w : get_or ds k 0 ≡ bit (sign l) = rw z here in
+          let own_k = subst (λ (j : ℕ). any (makes_true (suc j)) (l ∷ ls) ≡ sign l) (sym z) (own_true none) in
           record {
-            empty = λ h. o.filled (omega (arith, w, bit_small (sign l))) ∙ (ap (eqb 1) w ∙ (bit_one (sign l) ∙ sym (rw z (own_true none))));
+            empty = λ h. o.filled (omega (arith, w, bit_small (sign l))) ∙ (ap (eqb 1) w ∙ (bit_one (sign l) ∙ sym own_k));
             filled = λ h. absurd (omega (arith, e, subst (λ (j : ℕ). get_or cs j 0 < 2) z h));
           }
       at (no u) = record {
