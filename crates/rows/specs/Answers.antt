@@ -8,7 +8,7 @@ use Rattle.lines.specs.Parts.{Piece, lines_of, no_line}
 use Rattle.grammar.specs.Name.{Name}
 use Rattle.grammar.specs.Line.{name_in, body_in, start_in, depth_in}
 use Rattle.outline.specs.Sections.{Sections, sections, start_line, root_line}
-use Rattle.outline.specs.Names.{among, number_of, fact, job, task, declared}
+use Rattle.outline.specs.Names.{among, number_of, fact, job, declared}
 use Rattle.outline.specs.Questions.{short, met4}
 use Rattle.outline.specs.Index.{Shaped, Indexed}
 use Rattle.outline.specs.declared.Shape.{Shape}

@@ -1,5 +1,4 @@
 use mathlib.Core.Path.{sym, ◌∙◌}
-use Prim.Native.Nat.{◌-◌}
 use Rattle.rows.specs.Words.{fact_words}
 use Rattle.rows.proofs.FactList.{listing_first, listing_out, listing_twice, listing_last, listing_more, facts_off, names_hyphen, names_parts}
 use Rattle.rows.proofs.Counts.{count_facts, facts_few, lt_count, le_count}
@@ -35,7 +34,8 @@ returns-then-has c =
     let has = c.has in
     let if3 = c.if-has in
     names_parts _ _ is-hyphen.ensures if1.false
-    (facts_off loop.invariant.adding.wide (listing_twice loop.invariant cut.ensures pre.2 look_up.ensures (lt_count (count_facts pre.0) if2.false) (sym has.ensures ∙ if3.true)))
+    (facts_off loop.invariant.adding.wide
+    (listing_twice loop.invariant cut.ensures pre.2 look_up.ensures (lt_count (count_facts pre.0) if2.false) (sym has.ensures ∙ if3.true)))
 
 pub returns-then-e-b : goal.returns-then-e-b
 returns-then-e-b c =
@@ -52,7 +52,9 @@ returns-then-e-b c =
     let if3 = c.if-has in
     let if4 = c.if-e-b in
     names_parts _ _ is-hyphen.ensures if1.false
-    (rw insert.ensures (listing_last loop.invariant cut.ensures pre.2 look_up.ensures (lt_count (count_facts pre.0) if2.false) (facts_few pre.0) (sym has.ensures ∙ if3.false) if4.true))
+    (rw insert.ensures
+    (listing_last loop.invariant cut.ensures pre.2 look_up.ensures (lt_count (count_facts pre.0) if2.false) (facts_few pre.0)
+    (sym has.ensures ∙ if3.false) if4.true))
 
 pub loop-h-preserved : goal.loop-h-preserved
 loop-h-preserved c =
@@ -67,4 +69,5 @@ loop-h-preserved c =
     let if3 = c.if-has in
     let if4 = c.if-e-b in
     rw insert.ensures
-    (listing_more loop.invariant cut.ensures pre.2 look_up.ensures (lt_count (count_facts pre.0) if2.false) (facts_few pre.0) (sym has.ensures ∙ if3.false) if4.false)
+    (listing_more loop.invariant cut.ensures pre.2 look_up.ensures (lt_count (count_facts pre.0) if2.false) (facts_few pre.0)
+    (sym has.ensures ∙ if3.false) if4.false)

@@ -1,5 +1,4 @@
 use borrow.Author.Rules.{rules}
-use Prim.Native.Nat.{◌-◌}
 use native.Mathlib.Omega.{arith}
 use Rattle.rows.proofs.BodyList.{bodying_room, bodying_last, bodying_more, body_hyphen, body_parts, parts_length, room_at}
 use Rattle.rows.proofs.Counts.{count_tasks, among_is}
@@ -13,12 +12,14 @@ pub overflow_add-out : goal.overflow_add-out
 overflow_add-out c =
     omega (
       arith,
-      (room_at _ _ _ c.requires.3 (parts_length _ _ c.is_hyphen.ensures c.if-is_hyphen.false) (bodying_room c.loop-h.invariant c.cut-e.ensures c.requires.2) c.loop-h.invariant.placing.same),
+      (room_at _ _ _ c.requires.3 (parts_length _ _ c.is_hyphen.ensures c.if-is_hyphen.false)
+          (bodying_room c.loop-h.invariant c.cut-e.ensures c.requires.2) c.loop-h.invariant.placing.same),
     )
 
 pub offset_bounds-out-at : goal.offset_bounds-out-at
 offset_bounds-out-at c =
-    let h = room_at _ _ _ c.requires.3 (parts_length _ _ c.is_hyphen.ensures c.if-is_hyphen.false) (bodying_room c.loop-h.invariant c.cut-e.ensures c.requires.2) refl in search rules
+    let h = room_at _ _ _ c.requires.3 (parts_length _ _ c.is_hyphen.ensures c.if-is_hyphen.false)
+    (bodying_room c.loop-h.invariant c.cut-e.ensures c.requires.2) refl in search rules
 
 pub bounds-out-at : goal.bounds-out-at
 bounds-out-at c =
@@ -33,7 +34,8 @@ pub overflow_add-n : goal.overflow_add-n
 overflow_add-n c =
     omega (
       arith,
-      (room_at _ _ _ c.requires.3 (parts_length _ _ c.is_hyphen.ensures c.if-is_hyphen.false) (bodying_room c.loop-h.invariant c.cut-e.ensures c.requires.2) c.loop-h.invariant.placing.same),
+      (room_at _ _ _ c.requires.3 (parts_length _ _ c.is_hyphen.ensures c.if-is_hyphen.false)
+          (bodying_room c.loop-h.invariant c.cut-e.ensures c.requires.2) c.loop-h.invariant.placing.same),
     )
 
 pub returns-then-e-b : goal.returns-then-e-b

@@ -1,4 +1,3 @@
-use Prim.Native.Nat.{◌-◌}
 use Rattle.lists.proofs.Order.{le_trans}
 use Rattle.rows.proofs.Fields.{field_name, field_body, field_length, method_told, method_job, body_room}
 use Rattle.rows.proofs.Counts.{among_is, count_jobs}
@@ -21,4 +20,5 @@ returns c =
     let both = c.both in
     method_put _ _ _ _ _ _ _ _ (field_body field-at2.ensures put-body.ensures) pre.3
     (method_job _ _ (field_name _ field_at.ensures look_up.ensures)) _
-    (method_told _ _ _ _ _ (among_is _ _ _ _ (field_name _ field_at.ensures look_up.ensures) (count_jobs pre.0)) (field_body field-at2.ensures put-body.ensures) both.ensures)
+    (method_told _ _ _ _ _ (among_is _ _ _ _ (field_name _ field_at.ensures look_up.ensures) (count_jobs pre.0))
+    (field_body field-at2.ensures put-body.ensures) both.ensures)

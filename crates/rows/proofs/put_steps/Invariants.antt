@@ -4,7 +4,6 @@ use Rattle.lines.proofs.Lines.{On}
 use Rattle.outline.specs.Sections.{sections}
 use Rattle.outline.specs.Names.{fact, declared}
 use Rattle.rows.proofs.StepLines.{Stepping}
-use Rattle.rows.proofs.Walks.{steps_at}
 use Rattle.rows.proofs.put_steps.Given as goal
 
 abbrev pub invariant-loop-i : goal.invariant-loop-i

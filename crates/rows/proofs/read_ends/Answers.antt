@@ -1,7 +1,6 @@
-use Prim.Native.Nat.{◌-◌}
 use Rattle.lists.proofs.Order.{le_refl, next_le}
 use Rattle.rows.proofs.Fields.{field_facts, field_name, field_digit}
-use Rattle.rows.proofs.EndLines.{start_ended, start_line_lem, root_line, ends_means}
+use Rattle.rows.proofs.EndLines.{start_ended, start_line_lem, root_line_lem, ends_means}
 use Rattle.rows.proofs.Counts.{among_is, count_jobs}
 use Rattle.rows.proofs.read_ends.Goals as goal
 
@@ -20,7 +19,7 @@ returns c =
     let field-at3 = c.field_at-k in
     let digit-of = c.digit_of in
     let both = c.both in
-    ends_means _ _ _ (start_line_lem (pre) cut.ensures) (root_line (pre) cut.ensures cut2.ensures) _ _ _ _ _ _
+    ends_means _ _ _ (start_line_lem pre cut.ensures) (root_line_lem pre cut.ensures cut2.ensures) _ _ _ _ _ _
     (field_facts field_at.ensures fact-set.ensures) (field_name _ field-at2.ensures look_up.ensures)
-    (among_is _ _ _ _ (field_name _ field-at2.ensures look_up.ensures) (count_jobs (pre)))
+    (among_is _ _ _ _ (field_name _ field-at2.ensures look_up.ensures) (count_jobs pre))
     (field_digit field-at3.ensures digit-of.ensures) both.ensures

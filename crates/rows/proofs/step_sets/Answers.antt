@@ -1,4 +1,3 @@
-use Prim.Native.Nat.{◌-◌}
 use Rattle.rows.proofs.Fields.{field_facts, step_means}
 use Rattle.rows.proofs.step_sets.Goals as goal
 
