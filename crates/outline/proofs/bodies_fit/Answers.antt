@@ -10,7 +10,9 @@ returns-then-count_names-gt-MOST_IN_BODY c =
     (body_size _ c.field_at-f.ensures c.count_names.ensures) c.if-count_names-gt-MOST_IN_BODY.true)
 
 pub loop-i-preserved : goal.loop-i-preserved
-loop-i-preserved c =
-    (on_more c.loop-i.invariant.0 c.cut-b.ensures (lt_le c.loop-i-test.true c.requires.1), each_more c.loop-i.invariant.1 c.loop-i-test.true c.requires.1
-    (short_yes _ _ _ (on_is c.loop-i.invariant.0 c.cut-b.ensures (lt_le c.loop-i-test.true c.requires.1))
-    (body_size _ c.field_at-f.ensures c.count_names.ensures) c.if-count_names-gt-MOST_IN_BODY.false))
+loop-i-preserved c = (
+  on_more c.loop-i.invariant.0 c.cut-b.ensures (lt_le c.loop-i-test.true c.requires.1),
+  each_more c.loop-i.invariant.1 c.loop-i-test.true c.requires.1
+      (short_yes _ _ _ (on_is c.loop-i.invariant.0 c.cut-b.ensures (lt_le c.loop-i-test.true c.requires.1))
+      (body_size _ c.field_at-f.ensures c.count_names.ensures) c.if-count_names-gt-MOST_IN_BODY.false),
+)

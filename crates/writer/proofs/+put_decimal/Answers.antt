@@ -13,13 +13,16 @@ pub put_pair-requires : goal.put_pair-requires
 put_pair-requires t c = omega (arith, c.put_short-a.ensures.end, c.requires, length_hundreds c.args.n c.if-n-lt100.false)
 
 pub returns-then-n-lt10000 : goal.returns-then-n-lt10000
-returns-then-n-lt10000 t c = wrote_same (sym (decimal_hundreds c.args.n c.if-n-lt100.false)) (wrote_append (omega (arith, c.requires)) c.put_short-a.ensures c.put_pair.ensures)
+returns-then-n-lt10000 t c =
+    wrote_same (sym (decimal_hundreds c.args.n c.if-n-lt100.false)) (wrote_append (omega (arith, c.requires)) c.put_short-a.ensures c.put_pair.ensures)
 
 pub put_decimal-b-requires : goal.put_decimal-b-requires
-put_decimal-b-requires t c = (omega (arith, hundredth_less c.args.n c.if-n-lt100.false), omega (arith, c.requires, length_hundreds c.args.n c.if-n-lt100.false))
+put_decimal-b-requires t c =
+    (omega (arith, hundredth_less c.args.n c.if-n-lt100.false), omega (arith, c.requires, length_hundreds c.args.n c.if-n-lt100.false))
 
 pub put_pair-requires-2 : goal.put_pair-requires-2
 put_pair-requires-2 t c = omega (arith, c.put_decimal-b.ensures.end, c.requires, length_hundreds c.args.n c.if-n-lt100.false)
 
 pub returns : goal.returns
-returns t c = wrote_same (sym (decimal_hundreds c.args.n c.if-n-lt100.false)) (wrote_append (omega (arith, c.requires)) c.put_decimal-b.ensures c.put_pair-2.ensures)
+returns t c =
+    wrote_same (sym (decimal_hundreds c.args.n c.if-n-lt100.false)) (wrote_append (omega (arith, c.requires)) c.put_decimal-b.ensures c.put_pair-2.ensures)

@@ -10,4 +10,7 @@ use Rattle.writer.specs.Literal.{clause_in}
 use Rattle.writer.proofs.clause_fits.Goals as goal
 
 pub returns-then-room-ge3000 : goal.returns-then-room-ge3000
-returns-then-room-ge3000 c = let s = c.args.lits.now in sym (leb_in (length (clause_line (clause_in s))) c.args.room (omega (arith, line_short s (λ i. (c.shared_slice_known-1.given i).fits) c.requires, c.if-room-ge3000.true)))
+returns-then-room-ge3000 c =
+    let s = c.args.lits.now in sym
+    (leb_in (length (clause_line (clause_in s))) c.args.room
+    (omega (arith, line_short s (λ i. (c.shared_slice_known-1.given i).fits) c.requires, c.if-room-ge3000.true)))
