@@ -7,7 +7,7 @@
 use planner::runs::edits::{faults, Fault, Replacement};
 use planner::runs::{scratch, Tally};
 use std::path::{Path, PathBuf};
-use std::process::{Command, ExitCode};
+use std::process::{Command, ExitCode, Stdio};
 
 const PROGRAM: &str = "stored";
 
@@ -23,13 +23,13 @@ enum Tried {
     NotCompiled,
 }
 
-fn run(program: &str, arguments: &[&str]) -> String {
-    let done = Command::new(program).args(arguments).output().expect("the command runs");
-    String::from_utf8_lossy(&[done.stdout, done.stderr].concat()).to_string()
+fn run(program: &str, arguments: &[&str]) {
+    Command::new(program).args(arguments).output().expect("the command runs");
 }
 
+/// Without what checks have left.
 fn copy_repository(repository: &Path) {
-    run("cp", &["-r", &repository.join("crates").to_string_lossy(), &repository.join("crates.txt").to_string_lossy(), "."]);
+    run("sh", &["-c", "tar -C \"$1\" --exclude=out -cf - crates crates.txt | tar -xf -", "sh", &repository.to_string_lossy()]);
     run("git", &["init", "-q"]);
 }
 
@@ -40,27 +40,31 @@ fn store_cases(seed: &str, tables: &str, most: &str) {
     run(&own.with_file_name("cases").to_string_lossy(), &[&folder, seed, tables, most]);
 }
 
+/// What `rt try` says of the program, which it gives the files of its data.
 fn attempt() -> Tried {
-    let said = run("timeout", &["60", "rt", "try", PROGRAM]);
-    if said.contains("ended, but did not write what is expected") {
-        Tried::Differs(case_at(&said))
-    } else if said.contains("FAIL") {
-        Tried::NotEnded
-    } else if said.contains("wrote what its 'stdout' has") {
-        Tried::Same
-    } else {
-        Tried::NotCompiled
+    let folder = Path::new("crates").join(PROGRAM);
+    let mut command = Command::new("timeout");
+    command.args(["120", "rt", "try"]).current_dir(&folder);
+    let data = std::fs::read_dir(folder.join("data")).expect("the cases are stored");
+    for name in data.filter_map(|entry| entry.ok()?.file_name().into_string().ok()) {
+        command.args(["--data".to_string(), format!("{name}=data/{name}")]);
+    }
+    let done = command.stdin(Stdio::null()).output().expect("the command runs");
+    let expected = contents(&folder.join("stdout"));
+    match (done.status.code(), String::from_utf8_lossy(&done.stdout)) {
+        (Some(0), wrote) if wrote == expected => Tried::Same,
+        (Some(0), wrote) => Tried::Differs(case_at(&wrote, &expected)),
+        // a fault, two runs that differ, no answer; the time is up
+        (Some(4..=6 | 124), _) => Tried::NotEnded,
+        _ => Tried::NotCompiled,
     }
 }
 
-/// The case in whose output the first difference lies, as `rt try` tells its byte.
-fn case_at(said: &str) -> String {
-    let said = said.split("ended, but did not write what is expected").nth(1).unwrap_or("");
-    let digits = said.split("at byte ").nth(1).map(|rest| rest.chars().take_while(char::is_ascii_digit).collect::<String>());
-    let Some(byte) = digits.and_then(|digits| digits.parse::<usize>().ok()) else { return "it did not end as it should".to_string() };
-    let expected = std::fs::read(format!("crates/{PROGRAM}/stdout")).expect("the cases are stored");
-    let index = std::fs::read_to_string(format!("crates/{PROGRAM}/data/index")).expect("the cases are stored");
-    let before = format!("\n{}", String::from_utf8_lossy(&expected[..=byte.min(expected.len() - 1)]));
+/// The case in whose output the first difference lies.
+fn case_at(wrote: &str, expected: &str) -> String {
+    let byte = wrote.bytes().zip(expected.bytes()).take_while(|(one, other)| one == other).count();
+    let index = contents(&Path::new("crates").join(PROGRAM).join("data/index"));
+    let before = format!("\n{}", String::from_utf8_lossy(&expected.as_bytes()[..byte.saturating_add(1).min(expected.len())]));
     let line = index.lines().rfind(|line| before.contains(&format!("\n{line}\n"))).or(index.lines().next()).unwrap_or("");
     line.replace('\t', " ")
 }
@@ -92,7 +96,7 @@ fn tried() -> Result<String, &'static str> {
 }
 
 fn contents(file: &Path) -> String {
-    std::fs::read_to_string(file).expect("the file of an edit is there")
+    std::fs::read_to_string(file).expect("the file is there")
 }
 
 fn put(file: &Path, text: &str) {
