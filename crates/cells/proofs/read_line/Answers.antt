@@ -7,7 +7,14 @@ use Rattle.cells.proofs.Reading.{stands_line, line_parts}
 use Rattle.cells.proofs.read_line.Goals as goal
 
 pub read_parts-requires : goal.read_parts-requires
-read_parts-requires c = (values_room c.args.s.now c.args.a c.args.b c.requires.2 (sym c.in-Values.is ∙ c.kind_of.ensures.is), c.requires.2, c.requires.3)
+read_parts-requires c =
+    let a = c.args in
+    let kind = sym c.in-Values.is ∙ c.kind_of.ensures.is in
+    (values_room a.s.now a.a a.b c.requires.2 kind, c.requires.2, c.requires.3)
 
 pub returns-in-Values : goal.returns-in-Values
-returns-in-Values c = stands_line c.read_parts.ensures (line_parts satisfiable (reading_from c.args.was (take c.args.n c.args.cells.now)) c.args.s.now c.args.a c.args.b c.requires.2 (sym c.in-Values.is ∙ c.kind_of.ensures.is))
+returns-in-Values c =
+    let a = c.args in
+    let kind = sym c.in-Values.is ∙ c.kind_of.ensures.is in
+    stands_line c.read_parts.ensures
+    (line_parts satisfiable (reading_from a.was (take a.n a.cells.now)) a.s.now a.a a.b c.requires.2 kind)

@@ -10,7 +10,9 @@ pub returns-then-s-i : goal.returns-then-s-i
 returns-then-s-i c = like_out c.loop-i.invariant.0 c.requires.1 c.loop-i-test.true c.if-s-i.true
 
 pub loop-i-preserved : goal.loop-i-preserved
-loop-i-preserved c = (like_more c.loop-i.invariant.0 c.requires.1 c.loop-i-test.true c.if-s-i.false, next_le (like_room c.loop-i.invariant.0 c.requires.1 c.loop-i-test.true))
+loop-i-preserved c =
+    (like_more c.loop-i.invariant.0 c.requires.1 c.loop-i-test.true c.if-s-i.false,
+     next_le (like_room c.loop-i.invariant.0 c.requires.1 c.loop-i-test.true))
 
 pub returns : goal.returns
 returns c = like_done c.loop-i.invariant.0 c.loop-i.invariant.1 c.loop-i-test.false
