@@ -3,7 +3,7 @@
 use mathlib.Core.Path.{◌≡◌, refl, sym, ap, ◌∙◌}
 use mathlib.Core.Bool.{Bool, true, false, ◌&&◌, cond}
 use mathlib.Core.List.{List, [], ◌∷◌}
-use mathlib.Core.Logic.{◌⊎◌, ⊎_elim}
+use mathlib.Core.Logic.{⊎_elim}
 use mathlib.Core.Option.{Option, none, some}
 use Prim.Native.Nat.{ℕ, ◌+◌, ◌-◌, ◌≤◌, ◌<◌}
 use native.Mathlib.Omega.{arith}
@@ -21,7 +21,7 @@ use Rattle.lines.proofs.Slice.{slice_whole}
 use Rattle.lines.proofs.Cutting.{line_last, line_more}
 use Rattle.planning.specs.Clause.{Lit}
 use Rattle.solver.specs.Number.{number_of, numbers_of}
-use Rattle.solver.specs.Line.{Word as SaidWord, satisfiable, unsatisfiable, unknown, Line, comment, says, unformed, line_of, numbers_line, word_line, SATISFIABLE, UNSATISFIABLE, UNKNOWN}
+use Rattle.solver.specs.Line.{Word as SaidWord, satisfiable, unsatisfiable, unknown, says, unformed, numbers_line, word_line, SATISFIABLE, UNSATISFIABLE, UNKNOWN}
 use Rattle.solver.specs.File.{all_ended}
 use Rattle.solver.specs.Scan.{Reading, begin, and_on, read_part, read_line, read_lines, decide, from_line, read_from, heard}
 use Rattle.cells.specs.declared.kind.Kind.{Kind}

@@ -1,4 +1,3 @@
-use Prim.Native.Nat.{◌-◌}
 use Rattle.cells.proofs.Reading.{lines_last, lines_out, lines_more, lines_end}
 use borrow.Author.Tests.{not-true, not-false}
 use Rattle.cells.proofs.read_lines.Goals as goal

@@ -1,4 +1,3 @@
-use Prim.Native.Nat.{◌-◌}
 use Rattle.cells.proofs.Reading.{parts_out, parts_last, parts_more}
 use borrow.Author.Tests.{not-true, not-false}
 use Rattle.cells.proofs.read_parts.Goals as goal

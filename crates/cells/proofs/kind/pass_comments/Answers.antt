@@ -1,6 +1,5 @@
 use Rattle.lists.proofs.Bool.{said_no, said_yes}
 use Rattle.cells.proofs.Texts.{passing_last, passing_stop, passing_more, passing_end}
-use Prim.Native.Nat.{◌-◌}
 use Rattle.cells.proofs.kind.pass_comments.Goals as goal
 
 pub returns-then-b-n : goal.returns-then-b-n

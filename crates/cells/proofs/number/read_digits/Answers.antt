@@ -1,6 +1,5 @@
 use Rattle.lists.proofs.Bool.{said_yes}
 use Rattle.cells.proofs.Numbers.{digits_more, digit_range}
-use Prim.Native.Nat.{◌-◌}
 use Rattle.cells.proofs.number.read_digits.Goals as goal
 
 pub overflow_sub-v : goal.overflow_sub-v
