@@ -15,7 +15,6 @@ use Rattle.lines.specs.Bytes.{within}
 use Rattle.lines.specs.Parts.{Piece, no_line, split}
 use Rattle.lists.proofs.Bool.{and_l, and_r}
 use Rattle.lists.specs.List.{all}
-use Rattle.lists.specs.Text.{bytes}
 use Rattle.outline.specs.Questions.{met4}
 use Rattle.outline.specs.Sections.{is_end, past, root_line, sections}
 

@@ -3,7 +3,7 @@
 use mathlib.Core.Path.{◌≡◌, refl, ap₂, ◌∙◌}
 use mathlib.Core.Bool.{Bool, true, false, cond}
 use mathlib.Core.List.{List, [], ◌∷◌, map}
-use mathlib.Core.Logic.{◌⊎◌, ⊎_elim}
+use mathlib.Core.Logic.{⊎_elim}
 use Prim.Native.Nat.{ℕ, zero, suc, ◌+◌, ◌-◌, ◌≤◌, ◌<◌}
 use native.Mathlib.Omega.{arith}
 use lib.ListN.{length}
@@ -19,7 +19,6 @@ use Rattle.lines.specs.Parts.{Piece, lines_of}
 use Rattle.lines.specs.Cut.{line_at, lines_from}
 use Rattle.lists.proofs.Order.{le_or_lt}
 use Rattle.lists.specs.List.{Every}
-use Rattle.lists.specs.Text.{bytes}
 use Rattle.outline.proofs.Names.{entry_none, entry_some}
 use Rattle.outline.specs.Index.{Entry}
 use Rattle.outline.specs.Names.{names_of}

@@ -14,7 +14,7 @@ use Rattle.bitset.proofs.Promises.{promises}
 use Rattle.planning.specs.Table.{Table}
 use Rattle.planning.specs.Place.{Label as PlanningLabel, Place, slot, inner, Places, stop, also, child_label, root_label, root_place, nodes}
 use Rattle.planning.specs.Record.{records}
-use Rattle.planning.specs.Variable.{own_vars, part_vars, slot_vars, slots_vars, slots}
+use Rattle.planning.specs.Variable.{own_vars, part_vars, slot_vars, slots_vars}
 use Rattle.tree.specs.Words.{tree_words}
 use Rattle.tree.specs.Visit.{members_in, label_in, some_in, Inside, Known, slots_of, slots_of_each, Small, VisitedPart, VisitedTree, no_count, Counted}
 use Rattle.tree.specs.declared.Label.{Label}

@@ -1,6 +1,5 @@
 use Rattle.tree.proofs.Loops.{gathering_none, gathering_again, gathering_all}
 use Rattle.table.specs.Layout.{table_in}
-use Prim.Native.Nat.{◌-◌}
 use Rattle.tree.proofs.child_label.Goals as goal
 
 pub loop-m-init : goal.loop-m-init

@@ -1,6 +1,5 @@
 use native.Mathlib.Omega.{arith}
 use Rattle.tree.proofs.Loops.{counting_most, counting_again, counting_all}
-use Prim.Native.Nat.{◌-◌}
 use Rattle.tree.proofs.count_methods.Goals as goal
 
 pub one_more-n-requires : goal.one_more-n-requires

@@ -1,5 +1,4 @@
 use Rattle.tree.proofs.Loops.{longest_again, longest_all}
-use Prim.Native.Nat.{◌-◌}
 use Rattle.tree.proofs.longest.Goals as goal
 
 pub loop-m-preserved : goal.loop-m-preserved
