@@ -84,7 +84,8 @@ module _ (T : Table) (n x y i : ℕ) where
   pub body_name : {b : Bool} → b ≡ named_at T (node T n) x y → b ≡ true → y < length (body_of T (method_at (node T n) x))
   body_name e t = ltb-true y (length (body_of T (method_at (node T n) x))) (sym e ∙ t)
 
-  pub body_other : {b : Bool} → b ≡ named_at T (node T n) x y → b ≡ false → both (method_var (node T n) x) ((child_at (node T n) y).first + i) ≡ place_at (source T) (at 1 n 4 x y i)
+  pub body_other : {b : Bool} → b ≡ named_at T (node T n) x y → b ≡ false
+      → both (method_var (node T n) x) ((child_at (node T n) y).first + i) ≡ place_at (source T) (at 1 n 4 x y i)
   body_other e t = rw (← e, t)
 
   pub pass_first : y ≡ 0 → inherited n x ≡ place_at (source T) (at 1 n 5 x y i)
@@ -94,7 +95,8 @@ module _ (T : Table) (n x y i : ℕ) where
   pass_other u = rw (eqb_other y 0 u)
 
 -- Rule 4 ------------------------------------------------------------------------------------------------------------------------
-before_at : (T : Table) (n v f y : ℕ) → y ≡ 0 → neg v ∷ pos (fact_var T (source T).facts n f) ∷ [] ≡ literals (source T) (effect_place T (source T).facts n v y f)
+before_at : (T : Table) (n v f y : ℕ) → y ≡ 0 → neg v ∷ pos (fact_var T (source T).facts n f) ∷ []
+    ≡ literals (source T) (effect_place T (source T).facts n v y f)
 before_at T n v f zero e = refl
 before_at T n v f (suc y) e = absurd (omega arith)
 
@@ -105,9 +107,13 @@ after_at T n v f (suc zero) h u = refl
 after_at T n v f (suc (suc zero)) h u = refl
 after_at T n v f (suc (suc (suc y))) h u = absurd (omega arith)
 
-module _ (T : Table) (n x y i : ℕ) {v s f w : ℕ} (p : v ≡ (get_or (slot_at (source T) n) x (0, 0)).0) (q : s ≡ (get_or (slot_at (source T) n) x (0, 0)).1) (e : f ≡ get_or (effect_facts T s y) i 0) where
+module _ (T : Table) (n x y i : ℕ) {v s f w : ℕ} (p : v ≡ (get_or (slot_at (source T) n) x (0, 0)).0) (q : s ≡ (get_or (slot_at (source T) n) x (0, 0)).1)
+    (e : f ≡ get_or (effect_facts T s y) i 0) where
   pub effect_before : y ≡ 0 → w ≡ fact_var T (source T).facts n f → neg v ∷ pos w ∷ [] ≡ literals (source T) (place_at (source T) (at 3 n 0 x y i))
-  effect_before h l = rw (l, e, p, q) (before_at T n (get_or (slot_at (source T) n) x (0, 0)).0 (get_or (effect_facts T (get_or (slot_at (source T) n) x (0, 0)).1 y) i 0) y h)
+  effect_before h l = rw (l, e, p, q) (before_at T n (get_or (slot_at (source T) n) x (0, 0)).0
+      (get_or (effect_facts T (get_or (slot_at (source T) n) x (0, 0)).1 y) i 0) y h)
 
-  pub effect_after : y < 3 → (y ≡ 0 → ⊥) → w ≡ fact_var T (source T).facts (n + 1) f → neg v ∷ literal (eqb y 1) w ∷ [] ≡ literals (source T) (place_at (source T) (at 3 n 0 x y i))
-  effect_after h u l = rw (l, add-one n, e, p, q) (after_at T n (get_or (slot_at (source T) n) x (0, 0)).0 (get_or (effect_facts T (get_or (slot_at (source T) n) x (0, 0)).1 y) i 0) y h u)
+  pub effect_after : y < 3 → (y ≡ 0 → ⊥) → w ≡ fact_var T (source T).facts (n + 1) f
+      → neg v ∷ literal (eqb y 1) w ∷ [] ≡ literals (source T) (place_at (source T) (at 3 n 0 x y i))
+  effect_after h u l = rw (l, add-one n, e, p, q) (after_at T n (get_or (slot_at (source T) n) x (0, 0)).0
+      (get_or (effect_facts T (get_or (slot_at (source T) n) x (0, 0)).1 y) i 0) y h u)

@@ -41,7 +41,8 @@ module _ {o o₁ : List ℕ} {at r₁ : ℕ} where
   -- one literal and others behind it
   pub wrote_then : {o₂ : List ℕ} {r₂ v w : ℕ} {c d : Clause} (b : Bool) → at ≤ length o → v ≡ w → c ≡ d
       → Wrote o at (codes (literal b v ∷ [])) o₁ r₁ → Wrote o₁ r₁ (codes c) o₂ r₂ → Wrote o at (codes (literal b w ∷ d)) o₂ r₂
-  wrote_then {o₂} {r₂} {v} {w} b h p q x y = wrote_append {xs = codes (literal b w ∷ [])} h (wrote_lits (ap (λ (k : ℕ). literal b k ∷ []) p) x) (wrote_same (ap codes q) y)
+  wrote_then {o₂} {r₂} {v} {w} b h p q x y =
+      wrote_append {xs = codes (literal b w ∷ [])} h (wrote_lits (ap (λ (k : ℕ). literal b k ∷ []) p) x) (wrote_same (ap codes q) y)
 
   -- literals and one behind them
   pub wrote_last : {o₂ : List ℕ} {r₂ : ℕ} (c : Clause) (b : Bool) (v : ℕ) → at ≤ length o
@@ -49,12 +50,14 @@ module _ {o o₁ : List ℕ} {at r₁ : ℕ} where
   wrote_last c b v h x y = wrote_same (sym (codes_append c (literal b v ∷ []))) (wrote_append h x y)
 
   -- two variables, the first of them negated
-  pub wrote_pair : {v w x y : ℕ} (b : Bool) → v ≡ x → w ≡ y → Wrote o at (codes (neg v ∷ literal b w ∷ [])) o₁ r₁ → Wrote o at (codes (neg x ∷ literal b y ∷ [])) o₁ r₁
+  pub wrote_pair : {v w x y : ℕ} (b : Bool) → v ≡ x → w ≡ y → Wrote o at (codes (neg v ∷ literal b w ∷ [])) o₁ r₁
+      → Wrote o at (codes (neg x ∷ literal b y ∷ [])) o₁ r₁
   wrote_pair b p q w = rw (← p, ← q) w
 
 -- two literals and others behind them
 pub wrote_frame : {o o₁ o₂ o₃ : List ℕ} {r₁ r₂ r₃ v w x y : ℕ} (b d : Bool) (c : Clause) → 2 ≤ length o → v ≡ x → w ≡ y
-    → Wrote o 0 (codes (literal b v ∷ [])) o₁ r₁ → Wrote o₁ r₁ (codes (literal d w ∷ [])) o₂ r₂ → Wrote o₂ r₂ (codes c) o₃ r₃ → Wrote o 0 (codes (literal b x ∷ literal d y ∷ c)) o₃ r₃
+    → Wrote o 0 (codes (literal b v ∷ [])) o₁ r₁ → Wrote o₁ r₁ (codes (literal d w ∷ [])) o₂ r₂ → Wrote o₂ r₂ (codes c) o₃ r₃
+    → Wrote o 0 (codes (literal b x ∷ literal d y ∷ c)) o₃ r₃
 wrote_frame {o} {o₁} {o₂} {o₃} {r₁} {r₂} {r₃} {v} {w} {x} {y} b d c h p q s t u =
     let l : length o₁ ≡ length o = wrote_length s (omega arith) in
     let k : literal d y ∷ c ≡ literal d y ∷ c = refl in

@@ -72,7 +72,8 @@ module _ {l : List ℕ} {i lo hi : ℕ} (u : Between l i lo hi) where
       go false n =
           absurd (omega (arith, u.low, u.high, ap length at_hi, ap (λ (t : Bool). length (before ++ cons_if t lo [])) n, ap length (append-nil before)))
       go true y =
-          let long : i ≡ length before = omega (arith, u.low, u.high, ap length at_hi, ap (λ (t : Bool). length (before ++ cons_if t lo [])) y, length-append before (lo ∷ [])) in
+          let long : i ≡ length before =
+          omega (arith, u.low, u.high, ap length at_hi, ap (λ (t : Bool). length (before ++ cons_if t lo [])) y, length-append before (lo ∷ [])) in
           let here : filter (contains l) (from lo (64 - lo)) ≡ lo ∷ filter (contains l) (from (suc lo) (63 - lo)) = ap (filter (contains l)) rest ∙ rw y in
           sym (rw (all, here, long) (get_or-append_seam before lo (filter (contains l) (from (suc lo) (63 - lo))) 0))
 

@@ -50,5 +50,6 @@ module _ {T : Table} {ix : List ℕ} {n : ℕ} (i : InNode T ix n) where
       q ∙ rw (e, i.indexed.index) (job_meaning T n i.there x h)
 
   -- child y is a node
-  pub child_first : {c r : ℕ} (y k : ℕ) → y < length (node T n).children → c ≡ (child_at (node T n) y).node → r ≡ (node T c).first + k → r ≡ (child_at (node T n) y).first + k
+  pub child_first : {c r : ℕ} (y k : ℕ) → y < length (node T n).children → c ≡ (child_at (node T n) y).node → r ≡ (node T c).first + k
+      → r ≡ (child_at (node T n) y).first + k
   child_first {c} {r} y k h e f = f ∙ rw (e, (child_known i y h).first)

@@ -61,7 +61,12 @@ module _ {A : Type 0} (q : ℕ × A → Bool) (vs : List (ℕ × A)) where
   more : (x : ℕ) (d : ℕ × A) → x < length vs
       → codes (all_pos (filter q (take (x + 1) vs))) ≡ codes (all_pos (filter q (take x vs))) ++ codes (lit_if (q (get_or vs x d)) (get_or vs x d).0)
   more x d h =
-      rw (add-one x, take-suc vs x d h, filter_append q (take x vs) (get_or vs x d ∷ []), all_pos_append (filter q (take x vs)) (filter q (get_or vs x d ∷ [])))
+      rw (
+        add-one x,
+        take-suc vs x d h,
+        filter_append q (take x vs) (get_or vs x d ∷ []),
+        all_pos_append (filter q (take x vs)) (filter q (get_or vs x d ∷ [])),
+      )
       (codes_append (all_pos (filter q (take x vs))) (all_pos (filter q (get_or vs x d ∷ [])))
       ∙ ap (λ (l : List ℕ). codes (all_pos (filter q (take x vs))) ++ l) (one (q (get_or vs x d)) (get_or vs x d)))
 

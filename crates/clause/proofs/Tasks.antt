@@ -28,7 +28,8 @@ use Rattle.clause.proofs.Known.{steps_word, jobs_word}
 
 module _ {T : Table} {ix : List ℕ} {n : ℕ} (i : InNode T ix n) where
   -- at its place, where the set in the word w has it
-  pub step_lits : {w p v : ℕ} {b : Bool} (s : ℕ) → w ≡ node_word_in ix n 1 → p ≡ rank (members (w ∷ [])) s → v ≡ (node T n).first + p → b ≡ contains (w ∷ []) s
+  pub step_lits : {w p v : ℕ} {b : Bool} (s : ℕ) → w ≡ node_word_in ix n 1 → p ≡ rank (members (w ∷ [])) s → v ≡ (node T n).first + p
+      → b ≡ contains (w ∷ []) s
       → lit_if b v ≡ var_of (step s) (tasks_at (node T n))
   step_lits {w} {p} {v} {b} s e f g h =
       rw (h, g, f, promises.member (w ∷ []) s, steps_word i e)
@@ -53,7 +54,8 @@ elem_at (x ∷ xs) zero d h = refl
 elem_at (x ∷ xs) (suc y) d h = elem_at xs y d (omega arith)
 
 -- the task of method m at child y of node n, which is the node c
-pub body_lits : {T : Table} {ix : List ℕ} {n c m : ℕ} {t : Option Task} (i : InNode T ix n) (x y : ℕ) → y < length (node T n).children → c ≡ (child_at (node T n) y).node
+pub body_lits : {T : Table} {ix : List ℕ} {n c m : ℕ} {t : Option Task} (i : InNode T ix n) (x y : ℕ) → y < length (node T n).children
+    → c ≡ (child_at (node T n) y).node
     → m ≡ method_at (node T n) x → y < length (body_of T (method_at (node T n) x)) → t ≡ get_elem? (body_of T m) y
     → lits_of t (node T c) ≡ var_of (task_at T (method_at (node T n) x) y) (child_tasks (child_at (node T n) y))
 body_lits {T} {ix} {n} {c} {m} {t} i x y h e f l g =
@@ -61,16 +63,19 @@ body_lits {T} {ix} {n} {c} {m} {t} i x y h e f l g =
 
 -- step x of node n at its first child, which is the node c
 pub pass_lits : {T : Table} {ix : List ℕ} {n c s : ℕ} (i : InNode T ix n) (x : ℕ) → 0 < length (node T n).children → c ≡ (child_at (node T n) 0).node
-    → s ≡ get_or (node T n).steps x 0 → var_of (step s) (tasks_at (node T c)) ≡ var_of (step (get_or (node T n).steps x 0)) (child_tasks (child_at (node T n) 0))
+    → s ≡ get_or (node T n).steps x 0 → var_of (step s) (tasks_at (node T c))
+    ≡ var_of (step (get_or (node T n).steps x 0)) (child_tasks (child_at (node T n) 0))
 pass_lits {T} {ix} {n} {c} {s} i x h e f = rw f (child_lits i 0 (step (get_or (node T n).steps x 0)) h e)
 
 -- the job of method x
-pub job_of_lits : {m j : ℕ} (T : Table) (N : Node) (x : ℕ) → m ≡ method_at N x → j ≡ job_of T m → var_of (job j) (tasks_at N) ≡ var_of (job (job_of T (method_at N x))) (tasks_at N)
+pub job_of_lits : {m j : ℕ} (T : Table) (N : Node) (x : ℕ) → m ≡ method_at N x → j ≡ job_of T m
+    → var_of (job j) (tasks_at N) ≡ var_of (job (job_of T (method_at N x))) (tasks_at N)
 job_of_lits T N x e f = rw (f, e)
 
 -- the methods of job x
 pub methods_lits : {j : ℕ} (T : Table) (N : Node) (x : ℕ) → j ≡ get_or N.jobs x 0
-    → all_pos (filter (λ (m : ℕ × ℕ). eqb (job_of T m.1) j) (method_vars_at N)) ≡ all_pos (filter (λ (m : ℕ × ℕ). eqb (job_of T m.1) (get_or N.jobs x 0)) (method_vars_at N))
+    → all_pos (filter (λ (m : ℕ × ℕ). eqb (job_of T m.1) j) (method_vars_at N))
+    ≡ all_pos (filter (λ (m : ℕ × ℕ). eqb (job_of T m.1) (get_or N.jobs x 0)) (method_vars_at N))
 methods_lits T N x e = ap (λ (j : ℕ). all_pos (filter (λ (m : ℕ × ℕ). eqb (job_of T m.1) j) (method_vars_at N))) e
 
 -- at most 128 task variables

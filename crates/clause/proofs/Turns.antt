@@ -42,9 +42,11 @@ module _ (T : Table) (N : Node) (j : ℕ) where
       pub methods_room : x < k → a < length o
       methods_room h = passed_room of_job (method_vars_at N) u (omega (arith, e, many))
 
-      pub methods_more : {o' : List ℕ} {r v m p : ℕ} → x < k → v ≡ method_var N x → m ≡ method_at N x → p ≡ job_of T m → Wrote o a (codes (lit_if (eqb p j) v)) o' r → Methods o₀ s o' r (x + 1)
+      pub methods_more : {o' : List ℕ} {r v m p : ℕ} → x < k → v ≡ method_var N x → m ≡ method_at N x → p ≡ job_of T m
+          → Wrote o a (codes (lit_if (eqb p j) v)) o' r → Methods o₀ s o' r (x + 1)
       methods_more {o'} {r} {v} {m} {p} h f g q w =
-          let y : get_or (method_vars_at N) x (0, 0) ≡ (method_var N x, method_at N x) = number_get_d (N.first + tasks_n N) x N.methods (0, 0) (omega (arith, e)) in
+          let y : get_or (method_vars_at N) x (0, 0) ≡ (method_var N x, method_at N x) =
+          number_get_d (N.first + tasks_n N) x N.methods (0, 0) (omega (arith, e)) in
           passed_more of_job (method_vars_at N) u {b = eqb p j} (0, 0) (omega (arith, e, many)) (f ∙ sym (ap (λ (z : ℕ × ℕ). z.0) y)) (rw (y, q, g)) w
 
       pub methods_all : k ≤ x → Wrote o₀ s (codes (all_pos (filter of_job (method_vars_at N)))) o a
@@ -72,11 +74,13 @@ module _ (N : Node) where
       pub tasks_more : {o' : List ℕ} {r v : ℕ} → x < k → v ≡ N.first + x → Wrote o a (codes (pos v ∷ [])) o' r → AllTasks o₀ s o' r (x + 1)
       tasks_more {o'} {r} {v} h f w =
           let l = map step N.steps ++ map job N.jobs in
-          let y : (get_or (tasks_at N) x (0, step 0)).0 ≡ N.first + x = ap (λ (z : ℕ × Task). z.0) (number_get_d N.first x l (0, step 0) (omega (arith, e, length_tasks N.steps N.jobs))) in
+          let y : (get_or (tasks_at N) x (0, step 0)).0 ≡ N.first + x =
+          ap (λ (z : ℕ × Task). z.0) (number_get_d N.first x l (0, step 0) (omega (arith, e, length_tasks N.steps N.jobs))) in
           passed_more any_task (tasks_at N) u {b = true} (0, step 0) (omega (arith, e, many_tasks)) (f ∙ sym y) refl w
 
       pub tasks_all : k ≤ x → Wrote o₀ s (codes (all_pos (tasks_at N))) o a
-      tasks_all h = wrote_same (ap (λ (l : List (ℕ × Task)). codes (all_pos l)) (filter_all (tasks_at N))) (passed_all any_task (tasks_at N) u (omega (arith, e, many_tasks)))
+      tasks_all h = wrote_same (ap (λ (l : List (ℕ × Task)). codes (all_pos l)) (filter_all (tasks_at N)))
+          (passed_all any_task (tasks_at N) u (omega (arith, e, many_tasks)))
 
 -- The steps of a slot that make fact f rise, or fall ------------------------------------------------------------------------------
 module _ (T : Table) (n f : ℕ) (rising : Bool) where
@@ -97,7 +101,8 @@ module _ (T : Table) (n f : ℕ) (rising : Bool) where
       pub steps_room : x < k → a < length o
       steps_room h = passed_room moving (slot_at (source T) n) u (omega (arith, e))
 
-      pub steps_more : {o' : List ℕ} {r v t : ℕ} {b : Bool} → x < k → v ≡ (get_or (slot_at (source T) n) x (0, 0)).0 → t ≡ (get_or (slot_at (source T) n) x (0, 0)).1 → b ≡ moves T rising f t
+      pub steps_more : {o' : List ℕ} {r v t : ℕ} {b : Bool} → x < k → v ≡ (get_or (slot_at (source T) n) x (0, 0)).0
+          → t ≡ (get_or (slot_at (source T) n) x (0, 0)).1 → b ≡ moves T rising f t
           → Wrote o a (codes (lit_if b v)) o' r → Steps o₀ s o' r (x + 1)
       steps_more {o'} {r} {v} {t} {b} h p q g w = passed_more moving (slot_at (source T) n) u (0, 0) (omega (arith, e)) p (g ∙ ap (moves T rising f) q) w
 
@@ -105,7 +110,8 @@ module _ (T : Table) (n f : ℕ) (rising : Bool) where
       steps_all h = passed_all moving (slot_at (source T) n) u (omega (arith, e))
 
 -- its first variable is a, at node c; b is the word of variable 1
-module _ {T : Table} {ix : List ℕ} {n c a k x : ℕ} (i : InSlot T ix n) (node_of : SlotAt T n c) (first_of : (a ≡ (node T c).first) × (1 ≤ a) × (a ≤ 8192)) (size : k ≡ length (slot_at (source T) n)) (h : x < k) where
+module _ {T : Table} {ix : List ℕ} {n c a k x : ℕ} (i : InSlot T ix n) (node_of : SlotAt T n c) (first_of : (a ≡ (node T c).first) × (1 ≤ a) × (a ≤ 8192))
+    (size : k ≡ length (slot_at (source T) n)) (h : x < k) where
   pub slot_variable : (a + x ≡ (get_or (slot_at (source T) n) x (0, 0)).0) × (1 ≤ a + x) × (a + x ≤ 8256)
   slot_variable = variable_is i node_of (omega (arith, size)) first_of
 

@@ -40,7 +40,8 @@ number_of C = C.node
 numbers_of_lem : (T : Table) (u k n b : ℕ) (rs : List Record) → map number_of (children_from T u k n b rs) ≡ numbers u k n rs
 numbers_of_lem T u zero n b rs = refl
 numbers_of_lem T u (suc k) n b [] = refl
-numbers_of_lem T u (suc k) n b (r ∷ rs) = go (eqb r.parent u) (numbers_of_lem T u k (suc n) (b + own T r) rs) (numbers_of_lem T u (suc k) (suc n) (b + own T r) rs)
+numbers_of_lem T u (suc k) n b (r ∷ rs) =
+    go (eqb r.parent u) (numbers_of_lem T u k (suc n) (b + own T r) rs) (numbers_of_lem T u (suc k) (suc n) (b + own T r) rs)
   where
     go : (t : Bool) → map number_of (children_from T u k (suc n) (b + own T r) rs) ≡ numbers u k (suc n) rs
         → map number_of (children_from T u (suc k) (suc n) (b + own T r) rs) ≡ numbers u (suc k) (suc n) rs
@@ -62,7 +63,8 @@ numbers_next : (rs : List Record) (u k c : ℕ) → c < length rs → 1 ≤ k �
 numbers_next rs u zero c h l b e = absurd (omega arith)
 numbers_next rs u (suc k) c h l b e =
     let q : c + 1 ≡ suc c = omega arith in
-    rw q (ap (numbers u (suc k) c) (drop-cons rs c no_record h) ∙ ap (λ (t : Bool). cond t (c ∷ numbers u k (suc c) (drop (suc c) rs)) (numbers u (suc k) (suc c) (drop (suc c) rs))) (sym e) ∙ go b)
+    rw q (ap (numbers u (suc k) c) (drop-cons rs c no_record h)
+    ∙ ap (λ (t : Bool). cond t (c ∷ numbers u k (suc c) (drop (suc c) rs)) (numbers u (suc k) (suc c) (drop (suc c) rs))) (sym e) ∙ go b)
   where
     go : (t : Bool) → cond t (c ∷ numbers u k (suc c) (drop (suc c) rs)) (numbers u (suc k) (suc c) (drop (suc c) rs))
         ≡ cons_if t c [] ++ numbers u (suc k - length (cons_if t c [])) (suc c) (drop (suc c) rs)
@@ -87,22 +89,32 @@ eight_words N h = ext_get_or 0 (map number_of cs ++ replicate (8 - length cs) 0)
           length_from 0 8,
         )
 
-    same_word : (i : ℕ) → i < length (map number_of cs ++ replicate (8 - length cs) 0) → get_or (map number_of cs ++ replicate (8 - length cs) 0) i 0 ≡ get_or (child_words N) i 0
+    same_word : (i : ℕ) → i < length (map number_of cs ++ replicate (8 - length cs) 0)
+        → get_or (map number_of cs ++ replicate (8 - length cs) 0) i 0 ≡ get_or (child_words N) i 0
     same_word i l = go (le_or_lt (length cs) i) ∙ sym there
       where
         there : get_or (child_words N) i 0 ≡ (child_at N i).node
         there =
             let z : 0 + i ≡ i = omega arith in
-            get_d_map_from (λ y. (child_at N y).node) 0 8 i 0 (omega (arith, same_length, length-map (up_to 8) (λ y. (child_at N y).node), length_from 0 8)) ∙ ap (λ (y : ℕ). (child_at N y).node) z
+            get_d_map_from (λ y. (child_at N y).node) 0 8 i 0 (omega (arith, same_length, length-map (up_to 8) (λ y. (child_at N y).node), length_from 0 8))
+            ∙ ap (λ (y : ℕ). (child_at N y).node) z
 
         go : (length cs ≤ i) ⊎ (i < length cs) → get_or (map number_of cs ++ replicate (8 - length cs) 0) i 0 ≡ (child_at N i).node
         go (inl k) =
             let e : i ≡ length (map number_of cs) + (i - length cs) = omega (arith, length-map cs number_of) in
             ap (λ (j : ℕ). get_or (map number_of cs ++ replicate (8 - length cs) 0) j 0) e
             ∙ get_or-append-add (map number_of cs) (replicate (8 - length cs) 0) (i - length cs) 0
-            ∙ get_or-replicate (8 - length cs) (i - length cs) 0 0 (omega (arith, l, length-append (map number_of cs) (replicate (8 - length cs) 0), length-map cs number_of, length-replicate {A = ℕ} (8 - length cs) 0))
+            ∙ get_or-replicate (8 - length cs) (i - length cs) 0 0
+            (omega (
+              arith,
+              l,
+              length-append (map number_of cs) (replicate (8 - length cs) 0),
+              length-map cs number_of,
+              length-replicate {A = ℕ} (8 - length cs) 0,
+            ))
             ∙ ap number_of (sym (get_or-eq_default cs no_child {n = i} k))
-        go (inr k) = get_or-append (map number_of cs) (replicate (8 - length cs) 0) 0 i (omega (arith, length-map cs number_of)) ∙ get_or-map number_of cs i no_child
+        go (inr k) =
+            get_or-append (map number_of cs) (replicate (8 - length cs) 0) 0 i (omega (arith, length-map cs number_of)) ∙ get_or-map number_of cs i no_child
 
 -- The search -----------------------------------------------------------------------------------------------------------------------
 -- what is written so far, and what is found from node c on, are the children of node n
@@ -124,7 +136,8 @@ module _ {T : Table} {ws : List ℕ} {n : ℕ} (t : AtNode T ws n) where
   all_numbers =
       let q : n + 1 ≡ suc n = omega arith in
       rw (q, child_count T n) (
-      sym (numbers_of_lem T n (record_at (records T) n).children (suc n) (first_var T (records T) n + own T (record_at (records T) n)) (drop (suc n) (records T)))
+      sym (numbers_of_lem T n (record_at (records T) n).children (suc n) (first_var T (records T) n + own T (record_at (records T) n))
+      (drop (suc n) (records T)))
       ∙ ap (λ (N : Node). map number_of N.children) (sym (node_is t))
       )
 
@@ -166,7 +179,8 @@ module _ {T : Table} {ws : List ℕ} {n : ℕ} (t : AtNode T ws n) where
     found_room h true = omega (arith, h, e, children_word t, eight, u.room, u.same)
     found_room h false = omega (arith, h, e, children_word t, eight, u.room, u.same)
 
-    pub found_more : {o' : List ℕ} {r p : ℕ} {b : Bool} → a < s + w → p ≡ get_or ws (5 * c + 1) 0 → b ≡ eqb p n → Wrote o a (cons_if b c []) o' r → Found T n o₀ s o' r (c + 1)
+    pub found_more : {o' : List ℕ} {r p : ℕ} {b : Bool} → a < s + w → p ≡ get_or ws (5 * c + 1) 0 → b ≡ eqb p n → Wrote o a (cons_if b c []) o' r
+        → Found T n o₀ s o' r (c + 1)
     found_more {o'} {r} {p} {b} h f g v =
         let i = found_there h in
         let k = s + length (node T n).children - a in
@@ -199,7 +213,9 @@ module _ {T : Table} {ws : List ℕ} {n : ℕ} (t : AtNode T ws n) where
     pub found_all : {o' : List ℕ} {r : ℕ} → s + w ≤ a → Wrote o a (replicate (s + 8 - a) 0) o' r → Wrote o₀ s (child_words (node T n)) o' r
     found_all {o'} {r} h v =
         let z : s + length (node T n).children - a ≡ 0 = omega (arith, found_end h) in
-        let x : u.found ≡ map number_of (node T n).children = sym (append-nil u.found) ∙ ap (λ (k : ℕ). u.found ++ numbers n k c (drop c (records T))) (sym z) ∙ u.rest in
+        let x : u.found ≡ map number_of (node T n).children =
+        sym (append-nil u.found) ∙ ap (λ (k : ℕ). u.found ++ numbers n k c (drop c (records T))) (sym z) ∙ u.rest in
         let y : s + 8 - a ≡ 8 - length (node T n).children = omega (arith, found_end h) in
-        wrote_same (ap (λ (l : List ℕ). l ++ replicate (s + 8 - a) 0) x ∙ ap (λ (k : ℕ). map number_of (node T n).children ++ replicate k 0) y ∙ eight_words (node T n) eight)
+        wrote_same (ap (λ (l : List ℕ). l ++ replicate (s + 8 - a) 0) x ∙ ap (λ (k : ℕ). map number_of (node T n).children ++ replicate k 0) y
+        ∙ eight_words (node T n) eight)
         (wrote_append (omega (arith, u.room)) u.text v)

@@ -29,7 +29,8 @@ use Rattle.indexing.specs.Stands.{Stands, AtNode, node}
 use Rattle.indexing.proofs.Nodes.{node_count_lem, first_most, first_on, first_is}
 
 -- Single writes --------------------------------------------------------------------------------------------------------------------
-pub put_three : {o o₁ o₂ o₃ : List ℕ} {at r₁ r₂ r₃ a b c : ℕ} → at + 3 ≤ length o → Wrote o at (a ∷ []) o₁ r₁ → Wrote o₁ r₁ (b ∷ []) o₂ r₂ → Wrote o₂ r₂ (c ∷ []) o₃ r₃
+pub put_three : {o o₁ o₂ o₃ : List ℕ} {at r₁ r₂ r₃ a b c : ℕ} → at + 3 ≤ length o → Wrote o at (a ∷ []) o₁ r₁ → Wrote o₁ r₁ (b ∷ []) o₂ r₂
+    → Wrote o₂ r₂ (c ∷ []) o₃ r₃
     → Wrote o at (a ∷ b ∷ c ∷ []) o₃ r₃
 put_three h u v w = wrote_append (omega arith) (wrote_append (omega arith) u v) w
 
@@ -67,7 +68,8 @@ module _ {o₀ o : List ℕ} {s e a : ℕ} (u : Zeros o₀ s e o a) where
         at = omega (arith, w.end);
         room = u.room;
         same = wrote_length w (omega (arith, zeros_room h)) ∙ u.same;
-        text = wrote_same (replicate-append-replicate (a - s) 1 0 ∙ ap (λ (n : ℕ). replicate n 0) q) (wrote_append (omega (arith, u.low, u.at, u.room)) u.text w);
+        text = wrote_same (replicate-append-replicate (a - s) 1 0 ∙ ap (λ (n : ℕ). replicate n 0) q)
+            (wrote_append (omega (arith, u.low, u.at, u.room)) u.text w);
       }
 
   pub zeros_all : e ≤ a → Wrote o₀ s (replicate (e - s) 0) o a
@@ -121,7 +123,8 @@ module _ {p : ℕ → Bool} {k : ℕ} {o₀ o : List ℕ} {s a m e : ℕ} (u : P
   pub picked_full : e ≤ a → Wrote o₀ s (filter p (up_to k)) o a
   picked_full h =
       let z : m + (k - m) ≡ k = omega (arith, u.at) in
-      let all : filter p (up_to k) ≡ filter p (up_to m) ++ filter p (from m (k - m)) = ap (λ (i : ℕ). filter p (up_to i)) (sym z) ∙ filter_split p m (k - m) in
+      let all : filter p (up_to k) ≡ filter p (up_to m) ++ filter p (from m (k - m)) = ap (λ (i : ℕ). filter p (up_to i)) (sym z)
+      ∙ filter_split p m (k - m) in
       let none : filter p (from m (k - m)) ≡ [] =
       length_none _ (omega (arith, q, u.text.end, ap length all, length-append (filter p (up_to m)) (filter p (from m (k - m))))) in
       wrote_same (sym (all ∙ ap (λ (l : List ℕ). filter p (up_to m) ++ l) none ∙ append-nil (filter p (up_to m)))) u.text
@@ -154,11 +157,13 @@ slots_picked T = from_there (length (records T)) 0 (omega arith) ∙ ap (λ (k :
         ∙ go (inner T (record_at (records T) n)) (from_there m (suc n) (omega arith))
       where
         go : (i : Bool) → slot_nodes T (suc n) (drop (suc n) (records T)) ≡ filter (is_slot T) (from (suc n) m)
-            → cond i (slot_nodes T (suc n) (drop (suc n) (records T))) (n ∷ slot_nodes T (suc n) (drop (suc n) (records T))) ≡ cons_if (not i) n (filter (is_slot T) (from (suc n) m))
+            → cond i (slot_nodes T (suc n) (drop (suc n) (records T))) (n ∷ slot_nodes T (suc n) (drop (suc n) (records T)))
+            ≡ cons_if (not i) n (filter (is_slot T) (from (suc n) m))
         go true q = q
         go false q = ap (λ (l : List ℕ). n ∷ l) q
 
-pub slots_none : (T : Table) (o : List ℕ) (s : ℕ) → s + length (slot_nodes T 0 (records T)) ≤ length o → Picked (is_slot T) (length (source T).nodes) o s o s 0
+pub slots_none : (T : Table) (o : List ℕ) (s : ℕ) → s + length (slot_nodes T 0 (records T)) ≤ length o
+    → Picked (is_slot T) (length (source T).nodes) o s o s 0
 slots_none T o s h = picked_none (is_slot T) (length (source T).nodes) o s (omega (arith, h, ap length (slots_picked T)))
 
 pub slots_all : {T : Table} {ws o₀ o : List ℕ} {s a n : ℕ} → Stands T ws → Picked (is_slot T) (length (source T).nodes) o₀ s o a n → length ws / 5 ≤ n
@@ -187,7 +192,8 @@ module _ {A : Type 0} where
     each_room =
         let e = ap length (each_next f xs d n h) ∙ length-append (concat_map f (take n xs)) (f (get_or xs n d)) in
         let g = ap (λ (l : List A). length (concat_map f l)) (take-append-drop (n + 1) xs) in
-        let k = ap length (concat_map_append f (take (n + 1) xs) (drop (n + 1) xs)) ∙ length-append (concat_map f (take (n + 1) xs)) (concat_map f (drop (n + 1) xs)) in
+        let k = ap length (concat_map_append f (take (n + 1) xs) (drop (n + 1) xs))
+        ∙ length-append (concat_map f (take (n + 1) xs)) (concat_map f (drop (n + 1) xs)) in
         omega (arith, u.room, u.same, u.text.end, e, g, k)
 
     pub each_more : {o' : List ℕ} {r : ℕ} → Wrote o a (f (get_or xs n d)) o' r → Each f xs o₀ s o' r (n + 1)
@@ -221,5 +227,6 @@ module _ {T : Table} {ws o₀ o : List ℕ} {s a v n : ℕ} (u : Numbered T o₀
   pub numbered_fits : {x : ℕ} → x ≡ own T (record_at (records T) n) → v + x ≤ 8192
   numbered_fits {x} e = omega (arith, u.first, e, first_on t, first_most t.stands (n + 1))
 
-  pub numbered_more : {o' : List ℕ} {r x : ℕ} → Wrote o a (node_words (node T n)) o' r → x ≡ own T (record_at (records T) n) → Numbered T o₀ s o' r (v + x) (n + 1)
+  pub numbered_more : {o' : List ℕ} {r x : ℕ} → Wrote o a (node_words (node T n)) o' r → x ≡ own T (record_at (records T) n)
+      → Numbered T o₀ s o' r (v + x) (n + 1)
   numbered_more {o'} {r} {x} w e = record { each = each_more u.each no_node t.inside w; first = omega (arith, u.first, e, first_on t) }

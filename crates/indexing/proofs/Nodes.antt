@@ -104,9 +104,11 @@ module _ (T : Table) where
     counts : (p : Place) (d u n b : ℕ) → map (λ (N : Node). length N.children) (tree_nodes T p n b) ≡ map (λ (r : Record). r.children) (records_at p d u n)
     counts (slot L) d u n b = refl
     counts (inner L ps) d u n b =
-        ap₂ (λ (k : ℕ) (l : List ℕ). k ∷ l) (kids_count ps (suc n) (b + own_vars T (inner L ps))) (counts_each ps (suc d) n (suc n) (b + own_vars T (inner L ps)))
+        ap₂ (λ (k : ℕ) (l : List ℕ). k ∷ l) (kids_count ps (suc n) (b + own_vars T (inner L ps)))
+        (counts_each ps (suc d) n (suc n) (b + own_vars T (inner L ps)))
 
-    counts_each : (ps : Places) (d u n b : ℕ) → map (λ (N : Node). length N.children) (trees_nodes T ps n b) ≡ map (λ (r : Record). r.children) (records_below ps d u n)
+    counts_each : (ps : Places) (d u n b : ℕ) → map (λ (N : Node). length N.children) (trees_nodes T ps n b)
+        ≡ map (λ (r : Record). r.children) (records_below ps d u n)
     counts_each stop d u n b = refl
     counts_each (also p ps) d u n b =
         map-append (λ (N : Node). length N.children) (tree_nodes T p n b) (trees_nodes T ps (n + nodes p) (b + part_vars T p))
@@ -173,7 +175,8 @@ module _ {T : Table} {ws : List ℕ} {n : ℕ} (a : AtNode T ws n) where
 
   pub methods_in_lem : methods_of T (members_in (word_of (node T n).jobs)) ≡ (node T n).methods
   methods_in_lem =
-      ap (methods_of T) (jobs_in_lem ∙ ap (λ (N : Node). N.jobs) node_is) ∙ methods_at_lem T (record_at (records T) n) ∙ ap (λ (N : Node). N.methods) (sym node_is)
+      ap (methods_of T) (jobs_in_lem ∙ ap (λ (N : Node). N.jobs) node_is) ∙ methods_at_lem T (record_at (records T) n)
+      ∙ ap (λ (N : Node). N.methods) (sym node_is)
 
   -- `is_inner`: w and d are the record's depth and the table's, v its jobs
   pub inner_yes : {w d v : ℕ} {r : Bool} → w ≡ get_or ws (5 * n + 0) 0 → d ≡ T.depth → w < d → v ≡ get_or ws (5 * n + 4) 0 → r ≡ some_in (members_in v)
@@ -192,7 +195,8 @@ module _ {T : Table} {ws : List ℕ} {n : ℕ} (a : AtNode T ws n) where
   -- `jobs_at`
   pub jobs_yes : {i : Bool} {v : ℕ} → i ≡ innerRecord T (record_at (records T) n) → i ≡ true → v ≡ get_or ws (5 * n + 4) 0 → v ≡ word_of (node T n).jobs
   jobs_yes {i} {v} e f g =
-      g ∙ jobs_word ∙ ap (λ (b : Bool). word_of (cond b (record_at (records T) n).label.jobs [])) (sym f ∙ e) ∙ ap (λ (N : Node). word_of N.jobs) (sym node_is)
+      g ∙ jobs_word ∙ ap (λ (b : Bool). word_of (cond b (record_at (records T) n).label.jobs [])) (sym f ∙ e)
+      ∙ ap (λ (N : Node). word_of N.jobs) (sym node_is)
 
   pub jobs_no : {i : Bool} → i ≡ innerRecord T (record_at (records T) n) → i ≡ false → 0 ≡ word_of (node T n).jobs
   jobs_no {i} e f =

@@ -123,4 +123,5 @@ module _ {T : Table} {ws : List ℕ} (s : Stands T ws) where
         C = concat_map meanings (source T).nodes
 
         joined : (c.nodes ∷ c.slots ∷ (c.variables + 1) ∷ []) ++ A ++ B ++ C ≡ index_of T
-        joined = rw (nodes_are, slots_are, facts_are) (ap (λ (l : List ℕ). length (source T).nodes ∷ length (source T).slots ∷ (source T).facts ∷ l) (append_assoc A B C))
+        joined = rw (nodes_are, slots_are, facts_are) (ap (λ (l : List ℕ). length (source T).nodes ∷ length (source T).slots ∷ (source T).facts ∷ l)
+            (append_assoc A B C))

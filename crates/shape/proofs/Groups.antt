@@ -82,10 +82,12 @@ start_len T n (suc g) x y h = absurd (omega arith)
 
 module _ {T : Table} {ix : List ℕ} (i : Indexed T ix) where
   pub sizes_of : (r n g : ℕ) → Short (group_at (source T) r n g)
-  sizes_of r n g = short T i.accepted.limits (records T) (records_rising T i.accepted.sound.root) (records_children T i.accepted.limits i.accepted.sound.root) r n g
+  sizes_of r n g =
+      short T i.accepted.limits (records T) (records_rising T i.accepted.sound.root) (records_children T i.accepted.limits i.accepted.sound.root) r n g
 
   pub row_most : (r n g x y : ℕ) → row_len (source T) r n g x y ≤ 128
-  row_most r n g x y = short_row T i.accepted.limits (records T) (records_rising T i.accepted.sound.root) (records_children T i.accepted.limits i.accepted.sound.root) r n g x y
+  row_most r n g x y = short_row T i.accepted.limits (records T) (records_rising T i.accepted.sound.root)
+      (records_children T i.accepted.limits i.accepted.sound.root) r n g x y
 
 -- A row ----------------------------------------------------------------------------------------------------------------------
 module _ {T : Table} {ix : List ℕ} {r n g : ℕ} (i : InGroup T ix r n g) where
@@ -93,12 +95,20 @@ module _ {T : Table} {ix : List ℕ} {r n g : ℕ} (i : InGroup T ix r n g) wher
   past_columns {k} {x} y e h = (sym (rw (le-ltb x (group_at (source T) r n g).xs (omega arith), and_off (ltb n (nodes_in (source T) r)))), omega arith)
 
   pub past_rows : {k y : ℕ} (x : ℕ) → k ≡ (group_at (source T) r n g).ys → k ≤ y → (0 ≡ row_len (source T) r n g x y) × (◌≤◌ 0 128)
-  past_rows {k} {y} x e h =
-      (sym (rw (le-ltb y (group_at (source T) r n g).ys (omega arith), and_off (ltb x (group_at (source T) r n g).xs), and_off (ltb n (nodes_in (source T) r)))), omega arith)
+  past_rows {k} {y} x e h = (
+    sym (rw (
+      le-ltb y (group_at (source T) r n g).ys (omega arith),
+      and_off (ltb x (group_at (source T) r n g).xs),
+      and_off (ltb n (nodes_in (source T) r)),
+    )),
+    omega arith,
+  )
 
-  pub in_row : {k x y : ℕ} → x < (group_at (source T) r n g).xs → y < (group_at (source T) r n g).ys → k ≡ (group_at (source T) r n g).len x y → (k ≡ row_len (source T) r n g x y) × (k ≤ 128)
+  pub in_row : {k x y : ℕ} → x < (group_at (source T) r n g).xs → y < (group_at (source T) r n g).ys → k ≡ (group_at (source T) r n g).len x y
+      → (k ≡ row_len (source T) r n g x y) × (k ≤ 128)
   in_row {k} {x} {y} h l e =
-      let q : k ≡ row_len (source T) r n g x y = e ∙ sym (rw (lt-ltb n (nodes_in (source T) r) i.there, lt-ltb x (group_at (source T) r n g).xs h, lt-ltb y (group_at (source T) r n g).ys l)) in
+      let q : k ≡ row_len (source T) r n g x y =
+      e ∙ sym (rw (lt-ltb n (nodes_in (source T) r) i.there, lt-ltb x (group_at (source T) r n g).xs h, lt-ltb y (group_at (source T) r n g).ys l)) in
       (q, omega (arith, row_most i.indexed r n g x y))
 
 -- what is left of k behind the first x + 1

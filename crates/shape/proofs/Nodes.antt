@@ -79,7 +79,8 @@ module _ (T : Table) (a : Accepted T) where
 
     pub method_small : (x : ℕ) → x < length (node T n).methods → method_at (node T n) x < 128
     method_small x l =
-        let r = subst (λ (N : Node). Rising 0 (length T.methods) N.methods) (sym (node_at_lem T (records T) n inside)) (methods_rising (record_at (records T) n)) in
+        let r = subst (λ (N : Node). Rising 0 (length T.methods) N.methods) (sym (node_at_lem T (records T) n inside))
+        (methods_rising (record_at (records T) n)) in
         omega (arith, rising_at (length T.methods) x (node T n).methods r l, a.limits.methods)
 
     pub step_small : (x : ℕ) → x < length (node T n).steps → get_or (node T n).steps x 0 < 64
@@ -128,7 +129,8 @@ module _ {T : Table} {ix : List ℕ} {n : ℕ} (i : InNode T ix n) where
   pub child_known : (y : ℕ) → y < length (node T n).children → ChildAt T n y
   child_known y h = child_at_lem T acc.sound.root n y i.there h
 
-  pub child_is : {r : ℕ} (y : ℕ) → y < length (node T n).children → r ≡ node_word_in ix n (7 + y) → (r ≡ (child_at (node T n) y).node) × (r < length (source T).nodes)
+  pub child_is : {r : ℕ} (y : ℕ) → y < length (node T n).children → r ≡ node_word_in ix n (7 + y)
+      → (r ≡ (child_at (node T n) y).node) × (r < length (source T).nodes)
   child_is {r} y h e =
       let q : r ≡ (child_at (node T n) y).node = e ∙ word_of (7 + y) ∙ child_in T n i.there y (few_children y h) in
       (q, omega (arith, (child_known y h).inside))
@@ -137,12 +139,14 @@ module _ {T : Table} {ix : List ℕ} {n : ℕ} (i : InNode T ix n) where
   pub in_child : {c : ℕ} → c < length (source T).nodes → InNode T ix c
   in_child h = record { indexed = i.indexed; there = h }
 
-  pub width_is : {r c : ℕ} (y : ℕ) → y < length (node T n).children → c ≡ (child_at (node T n) y).node → r ≡ tasks_n (node T c) → r ≡ width (child_at (node T n) y)
+  pub width_is : {r c : ℕ} (y : ℕ) → y < length (node T n).children → c ≡ (child_at (node T n) y).node → r ≡ tasks_n (node T c)
+      → r ≡ width (child_at (node T n) y)
   width_is {r} {c} y h e f =
       let k = child_known y h in
       f ∙ rw (e, k.steps, k.jobs)
 
-  pub method_is : {r a b x : ℕ} → x < length (node T n).methods → a ≡ (node T n).first → b ≡ tasks_n (node T n) → r ≡ meaning_in ix (a + b + x) → (r ≡ method_at (node T n) x) × (r < 128)
+  pub method_is : {r a b x : ℕ} → x < length (node T n).methods → a ≡ (node T n).first → b ≡ tasks_n (node T n) → r ≡ meaning_in ix (a + b + x)
+      → (r ≡ method_at (node T n) x) × (r < 128)
   method_is {r} {a} {b} {x} h p q e =
       let s : r ≡ method_at (node T n) x =
       e ∙ rw (p, q) (ap (λ (l : List ℕ). meaning_in l (method_var (node T n) x)) i.indexed.index ∙ method_meaning T n i.there x h) in

@@ -66,7 +66,8 @@ module _ {T : Table} {ix : List ℕ} {n : ℕ} (i : InSlot T ix n) where
         (m ∙ sym (ap (λ (y : ℕ × ℕ). y.1) e), omega (arith, m, step_small T i.indexed.accepted c s.inside x l))
 
 -- whichever node the slot is
-pub step_at : {T : Table} {ix : List ℕ} {n r v x : ℕ} (i : InSlot T ix n) → x < length (slot_at (source T) n) → v ≡ (get_or (slot_at (source T) n) x (0, 0)).0 → r ≡ meaning_in ix v
+pub step_at : {T : Table} {ix : List ℕ} {n r v x : ℕ} (i : InSlot T ix n) → x < length (slot_at (source T) n) → v ≡ (get_or (slot_at (source T) n) x (0, 0)).0
+    → r ≡ meaning_in ix v
     → (r ≡ (get_or (slot_at (source T) n) x (0, 0)).1) × (r < 64)
 step_at {T} {ix} {n} i h p q = step_is i (slot_in T n i.there) h p q
 
@@ -81,7 +82,8 @@ module _ (T : Table) (a : Accepted T) (s : ℕ) where
   pub sets_is : (l : List ℕ) → members l ≡ (step_of T s).sets → members l ≡ effect_facts T s 1
   sets_is l e = e ∙ sym (facts_rising T (step_of T s).sets step_in.sets)
 
-  pub clears_is : (k l : List ℕ) → length k ≡ 1 → members k ≡ (step_of T s).clears → members l ≡ (step_of T s).sets → members (difference k l) ≡ effect_facts T s 2
+  pub clears_is : (k l : List ℕ) → length k ≡ 1 → members k ≡ (step_of T s).clears → members l ≡ (step_of T s).sets
+      → members (difference k l) ≡ effect_facts T s 2
   clears_is k l one p q =
       ap (λ (m : ℕ). filter (contains (difference k l)) (up_to (64 * m))) (promises.subtract_length k l ∙ one)
       ∙ filter_same (contains (difference k l)) (drops (step_of T s)) (up_to 64) (λ f h. same f)

@@ -13,8 +13,15 @@ put_job-requires c = (root_there c.requires.0.indexed, omega (arith, c.requires.
 pub start-requires : goal.start-requires
 start-requires c =
     let h = there c.requires.0 c.args.x c.args.y c.args.i c.requires.1 in
-    let T = table_in c.args.ws.now in
-    (c.requires.0.indexed, omega (arith, start_fact T c.args.n c.args.x c.args.y c.args.i c.requires.0.group c.in-2.is h.in_row, facts_most c.requires.0.indexed), c.requires.2)
+    let T = table_in c.args.ws.now in (
+      c.requires.0.indexed,
+      omega (
+        arith,
+        start_fact T c.args.n c.args.x c.args.y c.args.i c.requires.0.group c.in-2.is h.in_row,
+        facts_most c.requires.0.indexed,
+      ),
+      c.requires.2,
+    )
 
 pub returns-in-2 : goal.returns-in-2
 returns-in-2 c =

@@ -9,4 +9,5 @@ word-requires c = (few c.requires, omega arith)
 
 pub returns : goal.returns
 returns c =
-    own_count c.requires (step_count c.requires c.word.ensures c.size.ensures.0) (job_count c.requires c.jobs_at-jobs.ensures c.size-2.ensures.0) (method_count c.requires c.jobs_at-jobs.ensures c.count_methods.ensures.0)
+    own_count c.requires (step_count c.requires c.word.ensures c.size.ensures.0) (job_count c.requires c.jobs_at-jobs.ensures c.size-2.ensures.0)
+    (method_count c.requires c.jobs_at-jobs.ensures c.count_methods.ensures.0)

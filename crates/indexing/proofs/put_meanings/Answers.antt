@@ -17,8 +17,16 @@ put_members-b-requires c =
     omega (arith, c.requires.1, parts_long c.requires.0 c.word.ensures c.jobs_at-jobs.ensures, c.put_members-a.ensures.end)
 
 pub put_methods-requires : goal.put_methods-requires
-put_methods-requires c =
-    (known c.requires.0.stands, omega (arith, c.requires.1, parts_long c.requires.0 c.word.ensures c.jobs_at-jobs.ensures, c.put_members-a.ensures.end, c.put_members-b.ensures.end))
+put_methods-requires c = (
+  known c.requires.0.stands,
+  omega (
+    arith,
+    c.requires.1,
+    parts_long c.requires.0 c.word.ensures c.jobs_at-jobs.ensures,
+    c.put_members-a.ensures.end,
+    c.put_members-b.ensures.end,
+  ),
+)
 
 pub returns : goal.returns
 returns c =

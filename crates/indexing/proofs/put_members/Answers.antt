@@ -15,7 +15,8 @@ pub loop-a-smaller : goal.loop-a-smaller
 loop-a-smaller c = omega (arith, picked_left c.loop-a.invariant (ap (λ (k : ℕ). c.args.at + k) c.size.ensures.0) c.loop-a-test.true)
 
 pub loop-a-preserved : goal.loop-a-preserved
-loop-a-preserved c = picked_more c.loop-a.invariant c.holds.ensures (picked_left c.loop-a.invariant (ap (λ (k : ℕ). c.args.at + k) c.size.ensures.0) c.loop-a-test.true) c.put_if-a.ensures
+loop-a-preserved c = picked_more c.loop-a.invariant c.holds.ensures
+    (picked_left c.loop-a.invariant (ap (λ (k : ℕ). c.args.at + k) c.size.ensures.0) c.loop-a-test.true) c.put_if-a.ensures
 
 pub returns : goal.returns
 returns c = picked_full c.loop-a.invariant (ap (λ (k : ℕ). c.args.at + k) c.size.ensures.0) c.loop-a-test.false

@@ -7,8 +7,11 @@ use Rattle.indexing.proofs.Loops.{each_all, numbered_first, numbered_room, numbe
 use Rattle.indexing.proofs.put_nodes.Goals as goal
 
 pub put_node-a-requires : goal.put_node-a-requires
-put_node-a-requires c =
-    (at_node c.requires.0 c.loop-n-test.true, numbered_first c.loop-n.invariant (at_node c.requires.0 c.loop-n-test.true), numbered_room c.loop-n.invariant (at_node c.requires.0 c.loop-n-test.true))
+put_node-a-requires c = (
+  at_node c.requires.0 c.loop-n-test.true,
+  numbered_first c.loop-n.invariant (at_node c.requires.0 c.loop-n-test.true),
+  numbered_room c.loop-n.invariant (at_node c.requires.0 c.loop-n-test.true),
+)
 
 pub own-first-requires : goal.own-first-requires
 own-first-requires c = at_node c.requires.0 c.loop-n-test.true

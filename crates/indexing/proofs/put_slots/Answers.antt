@@ -18,7 +18,8 @@ put_if-a-requires c =
 
 pub loop-n-preserved : goal.loop-n-preserved
 loop-n-preserved c =
-    picked_more c.loop-n.invariant (slot_test (table_in c.args.ws.now) c.loop-n.n c.is_inner.ensures) (at_node c.requires.0 c.loop-n-test.true).inside c.put_if-a.ensures
+    picked_more c.loop-n.invariant (slot_test (table_in c.args.ws.now) c.loop-n.n c.is_inner.ensures) (at_node c.requires.0 c.loop-n-test.true).inside
+    c.put_if-a.ensures
 
 pub returns : goal.returns
 returns c = slots_all c.requires.0 c.loop-n.invariant c.loop-n-test.false

@@ -11,4 +11,6 @@ pub returns-then-y-eq1 : goal.returns-then-y-eq1
 returns-then-y-eq1 c = rw c.if-y-eq1.true (sets_is (table_in c.args.ws.now) c.requires.0 c.args.s c.sets.result c.sets.ensures)
 
 pub returns : goal.returns
-returns c = rw (part_three c.args.y c.requires.2 c.if-y-eq0.false c.if-y-eq1.false, c.subtract.ensures) (clears_is (table_in c.args.ws.now) c.requires.0 c.args.s c.clears-facts.result c.sets-sets.result (omega arith) c.clears-facts.ensures c.sets-sets.ensures)
+returns c = rw (part_three c.args.y c.requires.2 c.if-y-eq0.false c.if-y-eq1.false, c.subtract.ensures)
+    (clears_is (table_in c.args.ws.now) c.requires.0 c.args.s c.clears-facts.result c.sets-sets.result (omega arith) c.clears-facts.ensures
+    c.sets-sets.ensures)

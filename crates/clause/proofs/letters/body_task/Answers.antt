@@ -13,4 +13,6 @@ method_variable-requires c =
 
 pub returns : goal.returns
 returns c =
-    wrote_then false (omega arith) c.method_variable.ensures.0 (body_lits c.requires.0 c.args.x c.args.y c.requires.2 c.child.ensures.0 c.method.ensures.0 c.requires.3 c.body_task-t.ensures) c.put-a.ensures c.put_task.ensures
+    wrote_then false (omega arith) c.method_variable.ensures.0
+    (body_lits c.requires.0 c.args.x c.args.y c.requires.2 c.child.ensures.0 c.method.ensures.0 c.requires.3 c.body_task-t.ensures) c.put-a.ensures
+    c.put_task.ensures

@@ -12,4 +12,5 @@ own_variable-requires c = (c.requires.0, omega (arith, c.requires.1, few_steps c
 
 pub returns : goal.returns
 returns c =
-    wrote_then false (omega arith) c.own_variable.ensures.0 (pass_lits c.requires.0 c.args.x c.requires.2 c.child.ensures.0 c.step_at-s.ensures) c.put-a.ensures c.put_step.ensures
+    wrote_then false (omega arith) c.own_variable.ensures.0 (pass_lits c.requires.0 c.args.x c.requires.2 c.child.ensures.0 c.step_at-s.ensures)
+    c.put-a.ensures c.put_step.ensures

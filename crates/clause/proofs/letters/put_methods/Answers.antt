@@ -20,7 +20,8 @@ put_if-a-requires c =
 pub loop-x-preserved : goal.loop-x-preserved
 loop-x-preserved c =
     let T = table_in c.args.ws.now in
-    methods_more T (node T c.args.n) c.args.j c.methods_of-k.ensures.0 c.loop-x.invariant c.loop-x-test.true c.method_variable-v.ensures.0 c.method-m.ensures.0 c.job_of.ensures c.put_if-a.ensures
+    methods_more T (node T c.args.n) c.args.j c.methods_of-k.ensures.0 c.loop-x.invariant c.loop-x-test.true c.method_variable-v.ensures.0
+    c.method-m.ensures.0 c.job_of.ensures c.put_if-a.ensures
 
 pub returns : goal.returns
 returns c =

@@ -26,4 +26,5 @@ pub returns : goal.returns
 returns c =
     let h = there c.requires.0 c.args.x c.args.y c.args.i c.requires.1 in
     let T = table_in c.args.ws.now in
-    wrote_lits (effect_after T c.args.n c.args.x c.args.y c.args.i c.slot_variable-v.ensures.0 c.slot_step.ensures.0 c.effect_fact-f.ensures.0 h.in_y c.if-y-eq0.false c.fact_variable-after.ensures.0) c.pair-2.ensures
+    wrote_lits (effect_after T c.args.n c.args.x c.args.y c.args.i c.slot_variable-v.ensures.0 c.slot_step.ensures.0 c.effect_fact-f.ensures.0 h.in_y
+    c.if-y-eq0.false c.fact_variable-after.ensures.0) c.pair-2.ensures

@@ -21,4 +21,5 @@ fact_variable-requires-2 c =
 
 pub returns : goal.returns
 returns c =
-    wrote_frame true false (movers (table_in c.args.ws.now) c.args.n c.args.f true) (omega (arith, c.requires.2)) c.fact_variable.ensures.0 (rw (add-one c.args.n) at c.fact_variable-2.ensures.0) c.put-a.ensures c.put-b.ensures c.put_steps.ensures
+    wrote_frame true false (movers (table_in c.args.ws.now) c.args.n c.args.f true) (omega (arith, c.requires.2)) c.fact_variable.ensures.0
+    (rw (add-one c.args.n) at c.fact_variable-2.ensures.0) c.put-a.ensures c.put-b.ensures c.put_steps.ensures
