@@ -1,6 +1,5 @@
 -- `indexing::put_all_meanings` meets its contract. The loop's invariant: what the variables of the nodes before n stand for is written.
 -- The measure is the nodes left. Assumes nothing.
-use Prim.Native.Nat.{◌-◌}
 use native.Mathlib.Omega.{arith}
 use Rattle.places.specs.ClausePlace.{no_node}
 use Rattle.indexing.proofs.Nodes.{at_node, node_count_lem}

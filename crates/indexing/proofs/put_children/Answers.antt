@@ -2,7 +2,6 @@
 -- children of node n. The measure is the nodes left. Assumes nothing.
 use borrow.Author.Rules.{rules}
 use mathlib.Core.Path.{refl}
-use Prim.Native.Nat.{◌-◌}
 use native.Mathlib.Omega.{arith}
 use lib.Dec.{eqb}
 use Rattle.indexing.proofs.Nodes.{few, children_word}

@@ -1,6 +1,5 @@
 -- `indexing::put_methods` meets its contract. The loop's invariant: the methods of these jobs below m are written. The measure is the
 -- methods left. Assumes nothing.
-use Prim.Native.Nat.{◌-◌}
 use native.Mathlib.Omega.{arith}
 use lib.ListN.{length}
 use Rattle.table.specs.Layout.{table_in}

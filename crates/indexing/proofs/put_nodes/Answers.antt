@@ -1,6 +1,5 @@
 -- `indexing::put_nodes` meets its contract. The loop's invariant: the words of the nodes before n are written, and first is the first
 -- variable of node n. The measure is the nodes left. Assumes nothing.
-use Prim.Native.Nat.{◌-◌}
 use native.Mathlib.Omega.{arith}
 use Rattle.indexing.proofs.Nodes.{at_node, node_count_lem}
 use Rattle.indexing.proofs.Loops.{each_all, numbered_first, numbered_room, numbered_fits, numbered_more}

@@ -1,6 +1,5 @@
 -- `indexing::put_slots` meets its contract. The loop's invariant: the slots among the nodes before n are written. The measure is the nodes
 -- left. Assumes nothing.
-use Prim.Native.Nat.{◌-◌}
 use Rattle.table.specs.Layout.{table_in}
 use Rattle.indexing.proofs.Nodes.{at_node}
 use Rattle.indexing.proofs.Loops.{picked_room, picked_more, slot_test, slots_none, slots_all}

@@ -1,4 +1,4 @@
-use Rattle.shape.proofs.Slots.{slot_node, size_is}
+use Rattle.shape.proofs.Slots.{size_is}
 use Rattle.shape.proofs.slot_size.Goals as goal
 
 pub returns : goal.returns

@@ -1,5 +1,5 @@
 use native.Mathlib.Omega.{arith}
-use Rattle.shape.proofs.Slots.{slot_node, variable_is}
+use Rattle.shape.proofs.Slots.{variable_is}
 use Rattle.shape.proofs.slot_variable.Goals as goal
 
 pub overflow_add-result : goal.overflow_add-result

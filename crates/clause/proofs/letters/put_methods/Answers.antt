@@ -1,6 +1,5 @@
 -- `clause::letters::put_methods` meets its contract. The loop's invariant: of the first x methods, those of the job are written.
 -- The measure is the methods left. Assumes nothing.
-use Prim.Native.Nat.{◌-◌}
 use native.Mathlib.Omega.{arith}
 use Rattle.table.specs.Layout.{table_in}
 use Rattle.shape.specs.Shape.{node}

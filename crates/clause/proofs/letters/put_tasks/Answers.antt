@@ -1,6 +1,5 @@
 -- `clause::letters::put_tasks` meets its contract. The loop's invariant: the first t variables are written. The measure is the
 -- variables left. Assumes nothing.
-use Prim.Native.Nat.{◌-◌}
 use native.Mathlib.Omega.{arith}
 use Rattle.table.specs.Layout.{table_in}
 use Rattle.shape.specs.Shape.{node}

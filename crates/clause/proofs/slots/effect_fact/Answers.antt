@@ -1,6 +1,5 @@
 -- `clause::slots::effect_fact` meets its contract. The loop's invariant: at most i members lie below lo, and more below hi. The measure is
 -- what lies between. Assumes nothing.
-use Prim.Native.Nat.{◌-◌}
 use native.Mathlib.Omega.{arith}
 use Rattle.clause.proofs.Facts.{one_word, between_all, only_one}
 use Rattle.clause.proofs.slots.effect_fact.Goals as goal

@@ -1,10 +1,8 @@
 -- `clause::slots::put_steps` meets its contract. The loop's invariant: of the first x steps, those that make the fact rise or
 -- fall are written. The measure is the steps left. Assumes nothing.
-use Prim.Native.Nat.{◌-◌}
 use native.Mathlib.Omega.{arith}
 use Rattle.table.specs.Layout.{table_in}
 use Rattle.shape.proofs.Nodes.{few}
-use Rattle.shape.proofs.Slots.{slot_node}
 use Rattle.clause.proofs.Turns.{steps_room, steps_more, steps_all, slot_variable, slot_step}
 use Rattle.clause.proofs.slots.put_steps.Goals as goal
 
