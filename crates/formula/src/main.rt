@@ -2,10 +2,8 @@
 // that is not met. Standard error stays empty, unless the output could not be written whole.
 #![tactic(auto)]
 
-use libc::STDIN_FILENO;
-
-fn main() {
+fn main(rt: HostRuntime) {
     let mut file = programs::file_buffer();
-    let n = programs::read_file(STDIN_FILENO, &mut file);
-    programs::print_formula(&file[..n], programs::TEXT_ROOM);
+    let n = programs::read_file(&mut rt.stdin(), &mut file);
+    programs::print_formula(&rt, &file[..n], programs::TEXT_ROOM);
 }

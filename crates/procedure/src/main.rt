@@ -3,10 +3,10 @@
 // whole.
 #![tactic(auto)]
 
-fn main() {
+fn main(rt: HostRuntime) {
     let mut file = programs::file_buffer();
     let mut reply = programs::file_buffer();
-    let n = programs::read_named(b"table.tab", &mut file);
-    let m = programs::read_named(b"answer.txt", &mut reply);
-    programs::print_procedure(&file[..n], &reply[..m]);
+    let n = programs::read_named(&rt, b"table.tab", &mut file);
+    let m = programs::read_named(&rt, b"answer.txt", &mut reply);
+    programs::print_procedure(&rt, &file[..n], &reply[..m]);
 }

@@ -3,18 +3,21 @@
 // standard error. A program has no exit status: whoever runs it takes a line there for a failure.
 #![tactic(auto)]
 
-ghost use Rattle.std.specs.Prelude.{◌≡◌, ℕ, ◌≤◌, ◌<◌, [], ◌∷◌, length};
+ghost use Rattle.std.specs.Prelude.{◌≡◌, ℕ, ◌≤◌, ◌<◌, [], ◌∷◌, length, OnOk};
 ghost use Rattle.lists.specs.Written.{Wrote};
 ghost use Rattle.questions.specs.Questions.{taken};
 ghost use Rattle.encoding.specs.Calls.{checking};
 ghost use Rattle.io.specs.Counts.{IsPrefixLen};
-ghost use Rattle.programs.specs.Output.{refused_line, formula_lines, procedure_text};
+ghost use Rattle.std.specs.Io.KnownBytes.{Appends};
+ghost use Rattle.programs.specs.Output.{refused_line, formula_lines, formula_text, procedure_text};
 ghost use Rattle.programs.specs.Parts.{PartOf, room_of};
 ghost use Rattle.programs.specs.Room.{file_room, text_room};
 
 use answer::{LISTING_LEAST, Listed};
 use encoding::{Checked, TEXT_LEAST, Text};
-use libc::STDOUT_FILENO;
+use std::io::{Read, Write};
+use std::rt::Files;
+use std::{fs, io};
 
 // One byte more than a table or an answer may have, so that a longer file is noticed and not cut.
 pub const FILE_ROOM: usize = 65537;
@@ -36,37 +39,38 @@ fn text_buffer() -> [u8; TEXT_ROOM]
     [0; TEXT_ROOM]
 }
 
-// The bytes of an open file, as many as buf takes: how many there are, none where a read fails. What they are is the operating system's
-// word, and left free.
-pub fn read_file(fd: i32, buf: &mut [u8]) -> usize
+// The bytes that a reader gives, as many as buf takes: how many there are, none where a read fails. What they are is the reader's word, and
+// left free.
+pub fn read_file<R: Read>(file: &mut R, buf: &mut [u8]) -> usize
     ensures { IsPrefixLen result buf.new }
 {
     let mut n: usize = 0;
     while n < buf.len() {
-        let got = libc::read(fd, &mut buf[n..]);
-        if got < 0 {
-            return 0;
+        match file.read(&mut buf[n..]) {
+            Ok(0) => return n,
+            Ok(more) => n += more,
+            Err(_) => return 0,
         }
-        let more = io::count(got, &buf[n..]);
-        if more == 0 {
-            return n;
-        }
-        n += more;
     }
     n
 }
 
 // The bytes of the file with that name, left free too. "A file that cannot be opened counts as empty."
-pub fn read_named(path: &[u8], buf: &mut [u8]) -> usize
+pub fn read_named<F: Files>(files: &F, path: &[u8], buf: &mut [u8]) -> usize
     ensures { IsPrefixLen result buf.new }
 {
-    let fd = os::open_read(path);
-    if fd < 0 {
-        return 0;
+    match open_named(files, path) {
+        Ok(mut file) => read_file(&mut file, buf),
+        Err(_) => 0,
     }
-    let n = read_file(fd, buf);
-    libc::close(fd);
-    n
+}
+
+// A name that is no text names no file.
+fn open_named<F: Files>(files: &F, path: &[u8]) -> io::Result<F::File> {
+    match str::from_utf8(path) {
+        Ok(name) => fs::open(files, name),
+        Err(_) => Err(io::Error::from(io::ErrorKind::InvalidInput)),
+    }
 }
 
 // What is written ----------------------------------------------------------------------------------------------------------------
@@ -167,38 +171,51 @@ fn room_for(asked: usize) -> usize
 }
 
 // Part by part. What the text holds afterwards is left free, but for its length.
-fn print_parts<'a, 'b>(file: &'a [u8], text: &'b mut [u8])
+fn print_parts<W: Write>(file: &[u8], text: &mut [u8], out: &mut W) -> io::Result<()>
     requires { 1024 ≤ length text.old }
-    ensures { length text.new ≡ length text.old }
+    ensures length { length text.new ≡ length text.old }
+    ensures written { OnOk result (Appends (W.contents out.old) (W.contents out.new) (formula_text file.now)) }
 {
     let mut line: usize = 0;
     loop {
         let part = formula_part(file, line, text);
         let used = part.used;
-        if !io::write_all(STDOUT_FILENO, &text[..used]) {
-            os::fail(b"formula: the output could not be written whole");
-            return;
-        }
+        out.write_all(&text[..used])?;
         if part.last {
-            return;
+            return Ok(());
         }
         line = part.next;
     }
 }
 
-// Writes what `formula` writes for a table, part by part, each of at most so many bytes. There is no outcome to state here and below:
-// nothing comes back, nothing is lent to be written, and what arrives on standard output no contract of the system's calls says.
-pub fn print_formula(file: &[u8], room: usize) {
+// Writes what `formula` writes for a table, part by part, each of at most so many bytes.
+pub fn write_formula<W: Write>(file: &[u8], room: usize, out: &mut W) -> io::Result<()>
+    ensures { OnOk result (Appends (W.contents out.old) (W.contents out.new) (formula_text file.now)) }
+{
     let mut text = text_buffer();
     let n = room_for(room);
-    print_parts(file, &mut text[..n]);
+    print_parts(file, &mut text[..n], out)
 }
 
 // Writes what `procedure` writes for a table and an answer.
-pub fn print_procedure<'a>(file: &'a [u8], reply: &'a [u8]) {
+pub fn write_procedure<W: Write>(file: &[u8], reply: &[u8], out: &mut W) -> io::Result<()>
+    ensures { OnOk result (Appends (W.contents out.old) (W.contents out.new) (procedure_text file.now reply.now)) }
+{
     let mut text = [0u8; LISTING_LEAST];
     let used = procedure_text(file, reply, &mut text);
-    if !io::write_all(STDOUT_FILENO, &text[..used]) {
-        os::fail(b"procedure: the output could not be written whole");
+    out.write_all(&text[..used])
+}
+
+// The same to standard output. There is no outcome to state here and below: nothing comes back, nothing is lent to be written, and what
+// arrives on standard output no contract of the system's calls says.
+pub fn print_formula(rt: &(impl Print + Eprint), file: &[u8], room: usize) {
+    if write_formula(file, room, &mut io::writer(rt)).is_err() {
+        let _ = rt.eprintln("formula: the output could not be written whole");
+    }
+}
+
+pub fn print_procedure(rt: &(impl Print + Eprint), file: &[u8], reply: &[u8]) {
+    if write_procedure(file, reply, &mut io::writer(rt)).is_err() {
+        let _ = rt.eprintln("procedure: the output could not be written whole");
     }
 }

@@ -1,8 +1,7 @@
 -- text_buffer has the length that it says.
 -- By the law of lists that repeat a value: the list is never counted out.
-use mathlib.Core.Path.{sym}
-use Prim.Native.Nat.{ℕ}
 use lib.ListN.{length-replicate}
+use Rattle.std.proofs.Common.{ℕ, sym}
 use Rattle.programs.proofs.text_buffer.Goals as goal
 
 pub returns : goal.returns

@@ -1,0 +1,10 @@
+-- `programs::formula_part` meets its contract: a refusal, or the lines.
+-- Assumes nothing.
+use Rattle.programs.proofs.Writing.{lines_refused}
+use Rattle.programs.proofs.formula_part.Goals as goal
+
+pub lines_part-requires : goal.lines_part-requires
+lines_part-requires c = ?
+
+pub returns-in-Refused : goal.returns-in-Refused
+returns-in-Refused c = lines_refused c.args.file.now (rw c.in-Refused.is at c.check-checked.ensures) c.refused_part.ensures
