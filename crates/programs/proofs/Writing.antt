@@ -7,13 +7,15 @@ use mathlib.Core.Logic.{◌⊎◌, inl, inr}
 use Prim.Native.Nat.{ℕ, suc, ◌+◌, ◌-◌, ◌≤◌, ◌<◌}
 use native.Mathlib.Omega.{arith}
 use lib.Dec.{leb, ltb}
-use lib.ListN.{length, get_or, drop, length-append, length-drop, drop_of_length-le}
+use lib.ListN.{length, get_or, take, drop, length-append, length-drop, drop_of_length-le}
+use lib.Seq.{take-add, take-append_seam}
+use Rattle.std.proofs.lemmas.List.{take_all}
 use Rattle.lists.specs.List.{Every, concat}
 use Rattle.lists.specs.Question.{first_unmet}
 use Rattle.lists.specs.Text.{bytes}
 use Rattle.lists.specs.Written.{Wrote}
-use Rattle.lists.proofs.Bool.{leb_in, leb_no, clash}
-use Rattle.lists.proofs.Every.{every_imp}
+use Rattle.lists.proofs.Bool.{leb_sound, leb_in, leb_no, clash}
+use Rattle.lists.proofs.Every.{every_imp, concat_append}
 use Rattle.lists.proofs.Order.{le_or_lt}
 use Rattle.lists.proofs.Written.{wrote_append, wrote_length, wrote_whole}
 use Rattle.planning.specs.Table.{Table}
@@ -70,6 +72,22 @@ module _ (ls : List (List ℕ)) (j : ℕ) (o : List ℕ) where
 
     pub part_room : r.used ≤ length o'
     part_room = omega (arith, p.used, part_few, part_length)
+
+    -- so many bytes of the text are the part's lines
+    pub part_text : take r.used o' ≡ concat fits
+    part_text = ap (λ (i : ℕ). take i o') p.used ∙ (ap (take (length (concat fits))) p.left ∙ take-append_seam (concat fits) (drop (length (concat fits)) o))
+
+    -- and they continue the lines before
+    pub part_continues : concat (take r.next ls) ≡ concat (take j ls) ++ take r.used o'
+    part_continues =
+        ap (λ (i : ℕ). concat (take i ls)) p.next
+        ∙ (ap concat (take-add j (length fits) ls)
+        ∙ (concat_append (take j ls) (take (length fits) (drop j ls))
+        ∙ ap (λ (xs : List ℕ). concat (take j ls) ++ xs) (ap concat (sym (fitting_first (length o) (drop j ls))) ∙ sym part_text)))
+
+    -- it is the last, so they are all
+    pub part_ends : r.last ≡ true → concat ls ≡ concat (take j ls) ++ take r.used o'
+    part_ends e = ap concat (sym (take_all r.next ls (leb_sound (length ls) r.next (sym p.last ∙ e)))) ∙ part_continues
 
     -- it is not the last, so lines are left, and it has one
     pub part_on : Every (λ (l : List ℕ). length l ≤ length o) ls → r.last ≡ false → (j < r.next) × (r.next ≤ length ls)
