@@ -13,5 +13,3 @@ pub mod Showing
 pub mod ShowingAnswer
 pub mod Loops
 pub mod Outcomes
--- the walk that the calls over records share
-pub mod Records

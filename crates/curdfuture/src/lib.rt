@@ -1,7 +1,6 @@
-// The calls for other languages, as C functions in one static library. An enum does not cross that border: each call returns the
-// number of the question that is not met, or 0 where all are, and lays its values into numbers that the caller lends; on a refusal these
-// too stay as they were. A slice is passed as a pointer and a length, a record of the tree as five 64-bit words in the order of its fields. The
-// functions over records are straight lines, proved by hand: the call, and a covered function that tells its answer as numbers.
+// The calls for other languages, with numbers for answers; crate `curdfuture_c` makes C functions of them. An enum does not cross that border:
+// each call returns the number of the question that is not met, or 0 where all are, and lays its values into numbers that the caller lends; on a
+// refusal these too stay as they were.
 #![tactic(auto)]
 
 ghost use Rattle.std.specs.Prelude.{◌≡◌, [], ◌∷◌};
@@ -14,8 +13,7 @@ use encoding::{Built, Checked, Text};
 use nodes::Node;
 
 // Checks a table: how many nodes, variables and clauses there are.
-#[unsafe(no_mangle)]
-pub extern "C" fn curdfuture_check<'a, 'b, 'c, 'd>(
+pub fn curdfuture_check<'a, 'b, 'c, 'd>(
     file: &'a [u8],
     nodes: &'b mut usize,
     variables: &'c mut usize,
@@ -50,8 +48,7 @@ fn tell_built(built: Built, nodes: &mut usize) -> usize
 }
 
 // Builds the tree, one record a node: how many nodes there are.
-#[unsafe(no_mangle)]
-pub extern "C" fn curdfuture_build<'a, 'b, 'c>(
+pub fn curdfuture_build<'a, 'b, 'c>(
     file: &'a [u8],
     tree: &'b mut [Node],
     nodes: &'c mut usize,
@@ -78,8 +75,7 @@ fn tell_text<'a, 'b>(written: Text, used: &'a mut usize, next: &'b mut usize) ->
 }
 
 // Writes text from a line on: the bytes used and the next line.
-#[unsafe(no_mangle)]
-pub extern "C" fn curdfuture_write_text<'a, 'b, 'c, 'd, 'e>(
+pub fn curdfuture_write_text<'a, 'b, 'c, 'd, 'e>(
     file: &'a [u8],
     tree: &'b [Node],
     line: usize,
@@ -96,8 +92,7 @@ pub extern "C" fn curdfuture_write_text<'a, 'b, 'c, 'd, 'e>(
 }
 
 // Writes the formula's text from a line on, with no tree lent: the bytes used and the next line.
-#[unsafe(no_mangle)]
-pub extern "C" fn curdfuture_write_formula<'a, 'b, 'c, 'd>(
+pub fn curdfuture_write_formula<'a, 'b, 'c, 'd>(
     file: &'a [u8],
     line: usize,
     text: &'b mut [u8],
@@ -126,8 +121,7 @@ fn tell_taken(taken: Taken, count: &mut usize) -> usize
 }
 
 // Takes an answer: how many values there are.
-#[unsafe(no_mangle)]
-pub extern "C" fn curdfuture_take_answer<'a, 'b, 'c, 'd, 'e>(
+pub fn curdfuture_take_answer<'a, 'b, 'c, 'd, 'e>(
     file: &'a [u8],
     tree: &'b [Node],
     reply: &'c [u8],
@@ -156,8 +150,7 @@ fn tell_listed(listed: Listed, used: &mut usize) -> usize
 }
 
 // Lists a procedure: the bytes used.
-#[unsafe(no_mangle)]
-pub extern "C" fn curdfuture_list_procedure<'a, 'b, 'c, 'd, 'e>(
+pub fn curdfuture_list_procedure<'a, 'b, 'c, 'd, 'e>(
     file: &'a [u8],
     tree: &'b [Node],
     values: &'c [u8],
@@ -173,8 +166,7 @@ pub extern "C" fn curdfuture_list_procedure<'a, 'b, 'c, 'd, 'e>(
 }
 
 // Lists the procedure of an answer, with no tree and no values lent: the bytes used.
-#[unsafe(no_mangle)]
-pub extern "C" fn curdfuture_list_answer<'a, 'b, 'c, 'd>(
+pub fn curdfuture_list_answer<'a, 'b, 'c, 'd>(
     file: &'a [u8],
     reply: &'b [u8],
     listing: &'c mut [u8],

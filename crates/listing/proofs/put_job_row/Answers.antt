@@ -7,11 +7,11 @@ use Rattle.listing.proofs.put_job_row.Goals as goal
 
 pub first_true-x-requires : goal.first_true-x-requires
 first_true-x-requires c =
-    methods_valued c.requires.1 c.requires.0 c.first.ensures.0 c.tasks_of_lem.ensures.0 c.methods_of-k.ensures.0
+    methods_valued c.requires.1 c.requires.0 c.first.ensures.0 c.tasks_of.ensures.0 c.methods_of-k.ensures.0
 
 pub returns-then-x-k : goal.returns-then-x-k
 returns-then-x-k c =
-    no_method c.requires.1 c.requires.0 c.first.ensures.0 c.tasks_of_lem.ensures.0 c.methods_of-k.ensures.0 c.first_true-x.ensures c.args.j c.if-x-k.true
+    no_method c.requires.1 c.requires.0 c.first.ensures.0 c.tasks_of.ensures.0 c.methods_of-k.ensures.0 c.first_true-x.ensures c.args.j c.if-x-k.true
 
 pub overflow_mul-n : goal.overflow_mul-n
 overflow_mul-n c =
@@ -31,4 +31,4 @@ put_job-at-requires c =
 
 pub returns : goal.returns
 returns c =
-    job_listed c.requires.1 c.requires.0 c.first.ensures.0 c.tasks_of_lem.ensures.0 c.methods_of-k.ensures.0 c.first_true-x.ensures c.args.j c.if-x-k.false c.method-m.ensures.0 c.job_name.ensures c.put_job-at.ensures
+    job_listed c.requires.1 c.requires.0 c.first.ensures.0 c.tasks_of.ensures.0 c.methods_of-k.ensures.0 c.first_true-x.ensures c.args.j c.if-x-k.false c.method-m.ensures.0 c.job_name.ensures c.put_job-at.ensures

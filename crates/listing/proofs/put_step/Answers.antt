@@ -1,6 +1,6 @@
 -- `listing::put_step` meets its contract: there is room for each field behind those before it.
 -- Assumes nothing.
-use mathlib.Core.List.{◌∷◌}
+use mathlib.Core.List.{[], ◌∷◌}
 use native.Mathlib.Omega.{arith}
 use lib.ListN.{length-append}
 use Rattle.planning.specs.Text.{decimal}

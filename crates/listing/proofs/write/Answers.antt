@@ -10,4 +10,4 @@ put_node-p-requires c =
 
 pub loop-n-preserved : goal.loop-n-preserved
 loop-n-preserved c =
-    went_more c.requires.0 c.loop-n.invariant c.nodes_in-k.ensures.0 c.loop-n-test.true c.put_node-p.auto.1.1.1.1.1.0 c.put_node-p.ensures
+    went_more c.requires.0 c.loop-n.invariant c.nodes_in-k.ensures.0 c.loop-n-test.true c.put_node-p.auto.out c.put_node-p.ensures

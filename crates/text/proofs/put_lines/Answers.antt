@@ -7,10 +7,10 @@ pub loop-p-init : goal.loop-p-init
 loop-p-init c = (writing_none c.requires.1 c.requires.2, refl)
 
 pub returns-then-e-at : goal.returns-then-e-at
-returns-then-e-at c = writing_full c.loop-p.invariant.0 (rw c.p-1.given.1 at c.next.ensures.0) c.put_line-e.ensures c.if-e-at.true
+returns-then-e-at c = writing_full c.loop-p.invariant.0 c.in-Clause.ensures.0 c.put_line-e.ensures c.if-e-at.true
 
 pub overflow_add-line : goal.overflow_add-line
-overflow_add-line c = omega (arith, line_room c.loop-p.invariant.0 (rw c.p-1.given.1 at c.next.ensures.0) c.put_line-e.ensures c.if-e-at.false, c.requires.3)
+overflow_add-line c = omega (arith, line_room c.loop-p.invariant.0 c.in-Clause.ensures.0 c.put_line-e.ensures c.if-e-at.false, c.requires.3)
 
 pub loop-p-preserved : goal.loop-p-preserved
-loop-p-preserved c = (writing_more c.loop-p.invariant.0 (rw c.p-1.given.1 at c.next.ensures.0) c.put_line-e.ensures c.if-e-at.false (rw c.p-1.given.1 at c.next.ensures.1).1, c.put_line-e.auto.1.1.0 ∙ c.loop-p.invariant.1)
+loop-p-preserved c = (writing_more c.loop-p.invariant.0 c.in-Clause.ensures.0 c.put_line-e.ensures c.if-e-at.false c.in-Clause.ensures.1.1, c.put_line-e.auto.lits ∙ c.loop-p.invariant.1)
