@@ -15,5 +15,6 @@ returns-then-text-lt-LISTING_LEAST c =
 
 pub returns-then-q-ne0 : goal.returns-then-q-ne0
 returns-then-q-ne0 c =
-    list_unmet c.args.file.now c.args.values.now c.args.text.now c.args.lent c.args.same c.if-lent-lt-MOST_NODES.false c.if-values-lt-VALUES_LEAST.false c.if-text-lt-LISTING_LEAST.false c.requires c.question-q.ensures
+    list_unmet c.args.file.now c.args.values.now c.args.text.now c.args.lent c.args.same c.if-lent-lt-MOST_NODES.false
+    c.if-values-lt-VALUES_LEAST.false c.if-text-lt-LISTING_LEAST.false c.requires c.question-q.ensures
     c.if-q-ne0.true

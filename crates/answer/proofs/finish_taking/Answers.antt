@@ -11,4 +11,5 @@ returns-then-values-lt-VALUES_LEAST c =
 
 pub returns-then-q-ne0 : goal.returns-then-q-ne0
 returns-then-q-ne0 c =
-    take_unmet c.args.file.now c.args.answer.now c.args.values.now c.args.lent c.args.same c.if-lent-lt-MOST_NODES.false c.if-values-lt-VALUES_LEAST.false c.requires c.question-q.ensures c.if-q-ne0.true
+    take_unmet c.args.file.now c.args.answer.now c.args.values.now c.args.lent c.args.same c.if-lent-lt-MOST_NODES.false
+    c.if-values-lt-VALUES_LEAST.false c.requires c.question-q.ensures c.if-q-ne0.true

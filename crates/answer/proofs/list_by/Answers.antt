@@ -17,11 +17,20 @@ returns-then-not-is_model c =
 
 pub write-e-requires : goal.write-e-requires
 write-e-requires c =
-    rw c.table_of-ws.ensures
-    (listable c.requires.0 c.nodes-k.ensures (indexed c.requires.0 c.index-m.ensures) (omega (arith, (variables_are c.requires.0 c.variables-n.ensures), length-take-le c.variables-n.result c.args.values.now (omega (arith, few_values c.requires.0 c.variables-n.ensures, c.requires.2)))), c.requires.3)
+    rw c.table_of-ws.ensures (
+      listable c.requires.0 c.nodes-k.ensures (indexed c.requires.0 c.index-m.ensures)
+          (omega (
+            arith,
+            (variables_are c.requires.0 c.variables-n.ensures),
+            length-take-le c.variables-n.result c.args.values.now
+                (omega (arith, few_values c.requires.0 c.variables-n.ensures, c.requires.2)),
+          )),
+      c.requires.3,
+    )
 
 pub returns : goal.returns
 returns c =
     showed c.args.file.now (table_as c.args.own.now) c.args.values.now c.args.text.now (variables_are c.requires.0 c.variables-n.ensures) c.are_binary.ensures
-    c.if-not-are_binary.false-raw (rw c.table_of-ws.ensures at c.is_model.ensures) c.if-not-is_model.false-raw c.requires.0.table c.requires.2 (own_names c.requires.0)
+    c.if-not-are_binary.false-raw (rw c.table_of-ws.ensures at c.is_model.ensures) c.if-not-is_model.false-raw c.requires.0.table c.requires.2
+    (own_names c.requires.0)
     (rw c.table_of-ws.ensures at c.write-e.ensures)

@@ -19,8 +19,12 @@ returns-then-not-is_model c =
 
 pub write-e-requires : goal.write-e-requires
 write-e-requires c =
-    rw c.table_of-ws.ensures
-    (listable c.requires.0 c.nodes-k.ensures (indexed c.requires.0 c.index-m.ensures) (values_long c.requires.0 c.args.answer.now c.args.text.now (variables_are c.requires.0 c.variables-n.ensures) (heard_by c.read-q.ensures) c.if-q-ne0.false), c.requires.2)
+    rw c.table_of-ws.ensures (
+      listable c.requires.0 c.nodes-k.ensures (indexed c.requires.0 c.index-m.ensures)
+          (values_long c.requires.0 c.args.answer.now c.args.text.now (variables_are c.requires.0 c.variables-n.ensures) (heard_by c.read-q.ensures)
+          c.if-q-ne0.false),
+      c.requires.2,
+    )
 
 pub returns : goal.returns
 returns c =

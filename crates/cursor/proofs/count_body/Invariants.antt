@@ -7,7 +7,8 @@ use Rattle.cursor.proofs.Counts.{Summing}
 use Rattle.cursor.proofs.count_body.Given as goal
 
 abbrev pub invariant-loop-y : goal.invariant-loop-y
-invariant-loop-y l = Summing (λ y. cond (named_at (table_in l.ws) (node (table_in l.ws) l.n) l.x y) 1 (width (child_at (node (table_in l.ws) l.n) y))) 128 l.e l.y l.k
+invariant-loop-y l =
+    Summing (λ y. cond (named_at (table_in l.ws) (node (table_in l.ws) l.n) l.x y) 1 (width (child_at (node (table_in l.ws) l.n) y))) 128 l.e l.y l.k
 
 abbrev pub decreases-loop-y : goal.decreases-loop-y
 decreases-loop-y l = l.e - l.y

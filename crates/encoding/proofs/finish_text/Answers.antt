@@ -11,4 +11,5 @@ returns-then-text-lt-TEXT_LEAST c =
 
 pub returns-then-q-ne0 : goal.returns-then-q-ne0
 returns-then-q-ne0 c =
-    text_unmet c.args.file.now c.args.line c.args.text.now c.args.lent c.args.same c.if-lent-lt-MOST_NODES.false c.if-text-lt-TEXT_LEAST.false c.requires c.question-q.ensures c.if-q-ne0.true
+    text_unmet c.args.file.now c.args.line c.args.text.now c.args.lent c.args.same c.if-lent-lt-MOST_NODES.false c.if-text-lt-TEXT_LEAST.false
+    c.requires c.question-q.ensures c.if-q-ne0.true

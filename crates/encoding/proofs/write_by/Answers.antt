@@ -16,10 +16,17 @@ returns-then-line-clauses c =
 
 pub put_text-l-requires : goal.put_text-l-requires
 put_text-l-requires c =
-    rw c.table_of-ws.ensures
-    (indexed c.requires.0 c.index-m.ensures, c.variables-variables.ensures ∙ c.requires.0.variables, clauses_are (table_as c.args.own.now) (rw c.table_of-ws.ensures at c.count_all-clauses.ensures.0), c.count_all-clauses.ensures.1, c.if-line-clauses.false)
+    rw c.table_of-ws.ensures (
+      indexed c.requires.0 c.index-m.ensures,
+      c.variables-variables.ensures ∙ c.requires.0.variables,
+      clauses_are (table_as c.args.own.now)
+          (rw c.table_of-ws.ensures at c.count_all-clauses.ensures.0),
+      c.count_all-clauses.ensures.1,
+      c.if-line-clauses.false,
+    )
 
 pub returns : goal.returns
 returns c =
-    lined (table_as c.args.own.now) c.args.line (clauses_are (table_as c.args.own.now) (rw c.table_of-ws.ensures at c.count_all-clauses.ensures.0)) c.if-line-clauses.false
+    lined (table_as c.args.own.now) c.args.line (clauses_are (table_as c.args.own.now) (rw c.table_of-ws.ensures at c.count_all-clauses.ensures.0))
+    c.if-line-clauses.false
     (rw c.table_of-ws.ensures at c.put_text-l.ensures)

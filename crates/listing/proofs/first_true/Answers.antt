@@ -7,8 +7,10 @@ use Rattle.listing.proofs.first_true.Goals as goal
 
 pub returns-then-values-v-eq1 : goal.returns-then-values-v-eq1
 returns-then-values-v-eq1 c =
-    sought_here c.loop-i.invariant c.loop-i-test.true (value_true c.args.values.now (c.args.v + c.loop-i.i) (omega (arith, c.requires.0)) c.if-values-v-eq1.true)
+    sought_here c.loop-i.invariant c.loop-i-test.true (value_true c.args.values.now (c.args.v + c.loop-i.i) (omega (arith, c.requires.0))
+    c.if-values-v-eq1.true)
 
 pub loop-i-preserved : goal.loop-i-preserved
 loop-i-preserved c =
-    sought_more c.loop-i.invariant c.loop-i-test.true (value_false c.args.values.now (c.args.v + c.loop-i.i) (omega (arith, c.requires.0)) c.if-values-v-eq1.false)
+    sought_more c.loop-i.invariant c.loop-i-test.true (value_false c.args.values.now (c.args.v + c.loop-i.i) (omega (arith, c.requires.0))
+    c.if-values-v-eq1.false)

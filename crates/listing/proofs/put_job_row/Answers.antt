@@ -26,9 +26,14 @@ bounds-tree-n c =
     depth_read c.requires.1 c.requires.0
 
 pub put_job-at-requires : goal.put_job-at-requires
-put_job-at-requires c =
-    (c.requires.1.room, depth_low c.requires.1 c.requires.0 c.requires.2, job_name_short c.requires.1 c.args.j c.job_name.ensures, omega (arith, c.method-m.ensures.1))
+put_job-at-requires c = (
+  c.requires.1.room,
+  depth_low c.requires.1 c.requires.0 c.requires.2,
+  job_name_short c.requires.1 c.args.j c.job_name.ensures,
+  omega (arith, c.method-m.ensures.1),
+)
 
 pub returns : goal.returns
 returns c =
-    job_listed c.requires.1 c.requires.0 c.first.ensures.0 c.tasks_of.ensures.0 c.methods_of-k.ensures.0 c.first_true-x.ensures c.args.j c.if-x-k.false c.method-m.ensures.0 c.job_name.ensures c.put_job-at.ensures
+    job_listed c.requires.1 c.requires.0 c.first.ensures.0 c.tasks_of.ensures.0 c.methods_of-k.ensures.0 c.first_true-x.ensures c.args.j
+    c.if-x-k.false c.method-m.ensures.0 c.job_name.ensures c.put_job-at.ensures

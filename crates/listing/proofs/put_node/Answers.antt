@@ -13,8 +13,10 @@ returns-then-x-k c =
 
 pub returns-then-x-steps_of : goal.returns-then-x-steps_of
 returns-then-x-steps_of c =
-    step_here c.requires.1 c.requires.0 c.first.ensures.0 c.tasks_of-k.ensures.0 c.first_true-x.ensures c.task_at-i.ensures c.steps_of.ensures.0 c.if-x-steps_of.true c.put_step_row.ensures
+    step_here c.requires.1 c.requires.0 c.first.ensures.0 c.tasks_of-k.ensures.0 c.first_true-x.ensures c.task_at-i.ensures c.steps_of.ensures.0
+    c.if-x-steps_of.true c.put_step_row.ensures
 
 pub returns : goal.returns
 returns c =
-    job_here c.requires.1 c.requires.0 c.first.ensures.0 c.tasks_of-k.ensures.0 c.first_true-x.ensures c.task_at-i.ensures c.steps_of.ensures.0 c.if-x-steps_of.false c.if-x-k.false c.put_job_row.ensures
+    job_here c.requires.1 c.requires.0 c.first.ensures.0 c.tasks_of-k.ensures.0 c.first_true-x.ensures c.task_at-i.ensures c.steps_of.ensures.0
+    c.if-x-steps_of.false c.if-x-k.false c.put_job_row.ensures

@@ -14,7 +14,15 @@ put_number-b-requires c =
 
 pub put_name-requires : goal.put_name-requires
 put_name-requires c =
-    omega (arith, c.requires.0, c.requires.2, c.put_letter-a.ensures.end, decimal_length c.args.place 3 c.requires.1, c.put_number-b.ensures.end, length-append (decimal c.args.place) (9 ∷ []))
+    omega (
+      arith,
+      c.requires.0,
+      c.requires.2,
+      c.put_letter-a.ensures.end,
+      decimal_length c.args.place 3 c.requires.1,
+      c.put_number-b.ensures.end,
+      length-append (decimal c.args.place) (9 ∷ []),
+    )
 
 pub returns : goal.returns
 returns c =

@@ -10,10 +10,16 @@ pub loop-c-init : goal.loop-c-init
 loop-c-init c = (checking_none c.seek-c.ensures, refl)
 
 pub returns-then-not-is_row_satisfied : goal.returns-then-not-is_row_satisfied
-returns-then-not-is_row_satisfied c = checking_off c.loop-c.invariant.0 (stands_of c.loop-c.invariant.0.inside c.loop-c-test.true) c.is_row_satisfied.ensures (said_no refl c.if-not-is_row_satisfied.true-raw)
+returns-then-not-is_row_satisfied c =
+    checking_off c.loop-c.invariant.0 (stands_of c.loop-c.invariant.0.inside c.loop-c-test.true) c.is_row_satisfied.ensures
+    (said_no refl c.if-not-is_row_satisfied.true-raw)
 
 pub loop-c-preserved : goal.loop-c-preserved
-loop-c-preserved c = (checking_row c.loop-c.invariant.0 (stands_of c.loop-c.invariant.0.inside c.loop-c-test.true) c.is_row_satisfied.ensures (said_yes refl c.if-not-is_row_satisfied.false-raw) c.past_row-c.ensures, c.is_row_satisfied.auto.lits ∙ c.loop-c.invariant.1)
+loop-c-preserved c = (
+  checking_row c.loop-c.invariant.0 (stands_of c.loop-c.invariant.0.inside c.loop-c-test.true) c.is_row_satisfied.ensures
+      (said_yes refl c.if-not-is_row_satisfied.false-raw) c.past_row-c.ensures,
+  c.is_row_satisfied.auto.lits ∙ c.loop-c.invariant.1,
+)
 
 pub returns : goal.returns
 returns c = checking_end c.loop-c.invariant.0 c.loop-c-test.false

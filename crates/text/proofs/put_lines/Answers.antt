@@ -13,4 +13,8 @@ pub overflow_add-line : goal.overflow_add-line
 overflow_add-line c = omega (arith, line_room c.loop-p.invariant.0 c.in-Clause.ensures.0 c.put_line-e.ensures c.if-e-at.false, c.requires.3)
 
 pub loop-p-preserved : goal.loop-p-preserved
-loop-p-preserved c = (writing_more c.loop-p.invariant.0 c.in-Clause.ensures.0 c.put_line-e.ensures c.if-e-at.false c.in-Clause.ensures.1.1, c.put_line-e.auto.lits ∙ c.loop-p.invariant.1)
+loop-p-preserved c = (
+  writing_more c.loop-p.invariant.0 c.in-Clause.ensures.0 c.put_line-e.ensures c.if-e-at.false c.in-Clause.ensures.1.1,
+  c.put_line-e.auto.lits ∙
+      c.loop-p.invariant.1,
+)

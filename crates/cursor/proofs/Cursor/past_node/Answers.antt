@@ -10,7 +10,11 @@ pub returns-then-r-eq4 : goal.returns-then-r-eq4
 returns-then-r-eq4 c = rw c.the_end.ensures (rule_last c.requires.0 c.requires.1 c.nodes_in.ensures.0 c.if-n-nodes_in.false c.if-r-eq4.true)
 
 pub returns-then-nodes_in-eq0 : goal.returns-then-nodes_in-eq0
-returns-then-nodes_in-eq0 c = rw c.the_end-then-nodes_in-eq0.ensures (rule_empty c.requires.0 c.requires.1 c.nodes_in.ensures.0 c.if-n-nodes_in.false c.if-r-eq4.false c.nodes_in-2.ensures.0 c.if-nodes_in-eq0.true)
+returns-then-nodes_in-eq0 c =
+    rw c.the_end-then-nodes_in-eq0.ensures (rule_empty c.requires.0 c.requires.1 c.nodes_in.ensures.0 c.if-n-nodes_in.false c.if-r-eq4.false
+    c.nodes_in-2.ensures.0 c.if-nodes_in-eq0.true)
 
 pub returns : goal.returns
-returns c = rw c.row_start-2.ensures (rule_next c.requires.0 c.requires.1 c.nodes_in.ensures.0 c.if-n-nodes_in.false c.if-r-eq4.false c.nodes_in-2.ensures.0 c.if-nodes_in-eq0.false)
+returns c =
+    rw c.row_start-2.ensures (rule_next c.requires.0 c.requires.1 c.nodes_in.ensures.0 c.if-n-nodes_in.false c.if-r-eq4.false c.nodes_in-2.ensures.0
+    c.if-nodes_in-eq0.false)

@@ -10,4 +10,7 @@ pub returns-then-row_holds : goal.returns-then-row_holds
 returns-then-row_holds c = row_told c.requires.1 c.if-c.false (c.row_holds.ensures c.if-row_holds.true)
 
 pub loop-i-preserved : goal.loop-i-preserved
-loop-i-preserved c = (along_more c.requires.1 c.loop-i.invariant.0 c.loop-i-test.true (said_yes c.is_satisfied.ensures c.if-not-is_satisfied.false-raw), c.is_satisfied.auto.lits ∙ c.loop-i.invariant.1)
+loop-i-preserved c = (
+  along_more c.requires.1 c.loop-i.invariant.0 c.loop-i-test.true (said_yes c.is_satisfied.ensures c.if-not-is_satisfied.false-raw),
+  c.is_satisfied.auto.lits ∙ c.loop-i.invariant.1,
+)

@@ -9,4 +9,6 @@ pub returns-then-has_task : goal.returns-then-has_task
 returns-then-has_task c = λ t. up_node c.requires.2 c.requires.3 (sym c.has_task.ensures ∙ c.if-has_task.true)
 
 pub returns : goal.returns
-returns c = λ t. up_child c.requires.2 c.requires.3 (node_of c.requires.0 c.requires.1 c.requires.2) (child_of c.requires.0 c.requires.1 c.requires.2 c.requires.3) c.child.ensures.0 (said_no c.has_task-2.ensures t)
+returns c =
+    λ t. up_child c.requires.2 c.requires.3 (node_of c.requires.0 c.requires.1 c.requires.2)
+    (child_of c.requires.0 c.requires.1 c.requires.2 c.requires.3) c.child.ensures.0 (said_no c.has_task-2.ensures t)
