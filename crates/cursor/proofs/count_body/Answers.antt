@@ -1,5 +1,4 @@
 use native.Mathlib.Omega.{arith}
-use Prim.Native.Nat.{◌-◌}
 use Rattle.cursor.proofs.Counts.{summing_more, body_most}
 use Rattle.cursor.proofs.count_body.Goals as goal
 

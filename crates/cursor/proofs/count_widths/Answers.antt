@@ -1,5 +1,4 @@
 use native.Mathlib.Omega.{arith}
-use Prim.Native.Nat.{◌-◌}
 use Rattle.cursor.proofs.Counts.{summing_more, width_most}
 use Rattle.cursor.proofs.count_widths.Goals as goal
 

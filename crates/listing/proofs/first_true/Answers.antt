@@ -1,6 +1,6 @@
 -- `listing::first_true` meets its contract. The loop's invariant: none of the first i variables is true. The measure is the variables left.
 -- Assumes nothing.
-use Prim.Native.Nat.{◌+◌, ◌-◌}
+use Prim.Native.Nat.{◌+◌}
 use native.Mathlib.Omega.{arith}
 use Rattle.listing.proofs.Sought.{value_true, value_false, sought_here, sought_more}
 use Rattle.listing.proofs.first_true.Goals as goal

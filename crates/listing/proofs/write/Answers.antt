@@ -1,6 +1,5 @@
 -- `listing::write` meets its contract. The loop's invariant: the rows of the first n nodes are written. The measure is the nodes left.
 -- Assumes nothing.
-use Prim.Native.Nat.{◌-◌}
 use Rattle.listing.proofs.Loops.{went_ready, went_more}
 use Rattle.listing.proofs.write.Goals as goal
 

@@ -1,6 +1,5 @@
 -- `model::row::has_on` meets its contract. One of the variables is true exactly if one from place i on is.
 -- Assumes nothing.
-use Prim.Native.Nat.{◌-◌}
 use Rattle.planning.specs.Model.{value, truths_in}
 use Rattle.model.proofs.Values.{off_here}
 use Rattle.model.proofs.row.has_on.Goals as goal

@@ -1,7 +1,6 @@
 -- `model::row::is_row_satisfied` meets its contract. The loop's invariant: the clauses of the row before place i are satisfied. The measure is
 -- the clauses left. Assumes nothing.
 use mathlib.Core.Path.{◌∙◌}
-use Prim.Native.Nat.{◌-◌}
 use Rattle.lists.proofs.Bool.{said_yes}
 use Rattle.model.proofs.Clauses.{row_told, along_more}
 use Rattle.model.proofs.row.is_row_satisfied.Goals as goal
