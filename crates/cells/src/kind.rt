@@ -81,7 +81,7 @@ fn is_text(s: &[u8], a: usize, b: usize, t: &[u8]) -> bool
         return false;
     }
     let mut i = a;
-    let mut j = 0;
+    let mut j: usize = 0;
     while i < b {
         if s[i] != t[j] {
             return false;
