@@ -2,11 +2,11 @@
 -- Record by record.
 use mathlib.Core.Path.{◌≡◌, refl, ap₂}
 use mathlib.Core.List.{List, [], ◌∷◌, map, ◌++◌}
-use Prim.Native.Nat.{ℕ, ◌+◌, ◌-◌}
+use Prim.Native.Nat.{ℕ}
 use native.Mathlib.Omega.{arith}
 use lib.ListN.{length, get_or}
 use Rattle.bitset.specs.Set.{set_of}
-use Rattle.planning.specs.Record.{Record, records}
+use Rattle.planning.specs.Record.{Record}
 use Rattle.index.proofs.Known.{set_length}
 use Rattle.nodes.specs.Nodes.{words_of}
 use Rattle.nodes.specs.Tree.{set_word, node_of}
