@@ -10,34 +10,37 @@ use answer::Listed;
 use encoding::{Checked, Text};
 
 // check TABLE: how many nodes, variables and clauses there are.
-pub fn check(file: &[u8]) {
+pub fn check(rt: &(impl Print + Eprint), file: &[u8]) {
     let outcome = encoding::check(file);
     match outcome {
-        Checked::Refused(question) => print::refused(question),
+        Checked::Refused(question) => print::refused(rt, question),
         Checked::Accepted(nodes, variables, clauses) => {
-            print::number(nodes);
-            print::tab();
-            print::number(variables);
-            print::tab();
-            print::number(clauses);
+            print::number(rt, nodes);
+            print::tab(rt);
+            print::number(rt, variables);
+            print::tab(rt);
+            print::number(rt, clauses);
         }
     }
-    print::line_end();
+    print::line_end(rt);
 }
 
 // The outcome of a text call, and a checksum of the buffer.
-fn print_text(outcome: Text, buffer: &[u8]) {
+fn print_text(rt: &(impl Print + Eprint), outcome: Text, buffer: &[u8]) {
     match outcome {
-        Text::Refused(question) => print::refused(question),
+        Text::Refused(question) => print::refused(rt, question),
         Text::Written(used, next) => {
-            print::number(used);
-            print::tab();
-            print::number(next);
+            print::number(rt, used);
+            print::tab(rt);
+            print::number(rt, next);
         }
     }
-    print::tab();
-    print::word(cases::checksum_bytes(cases::checksum_start(), buffer, buffer.len()));
-    print::line_end();
+    print::tab(rt);
+    print::word(
+        rt,
+        cases::checksum_bytes(cases::checksum_start(), buffer, buffer.len()),
+    );
+    print::line_end(rt);
 }
 
 // A text call with the first n bytes of the buffer.
@@ -51,23 +54,23 @@ fn write_into<'a, 'b>(file: &'a [u8], line: usize, buffer: &'b mut [u8], n: usiz
 }
 
 // text TABLE - LINE LENGTH: the formula's text from a line on, into so many bytes.
-pub fn text(file: &[u8], line: usize, length: usize) {
+pub fn text(rt: &(impl Print + Eprint), file: &[u8], line: usize, length: usize) {
     let mut buffer = [7u8; 65536];
     let outcome = write_into(file, line, &mut buffer, length);
-    print_text(outcome, &buffer);
+    print_text(rt, outcome, &buffer);
 }
 
-fn print_sum(bytes: usize, parts: usize, sum: u64) {
-    print::number(bytes);
-    print::tab();
-    print::number(parts);
-    print::tab();
-    print::word(sum);
-    print::line_end();
+fn print_sum(rt: &(impl Print + Eprint), bytes: usize, parts: usize, sum: u64) {
+    print::number(rt, bytes);
+    print::tab(rt);
+    print::number(rt, parts);
+    print::tab(rt);
+    print::word(rt, sum);
+    print::line_end(rt);
 }
 
 // All parts of what `formula` writes: bytes, parts, and the checksum of the bytes. Of the text only its length is known afterwards.
-fn whole_into<'a, 'b>(file: &'a [u8], text: &'b mut [u8])
+fn whole_into<'a, 'b>(rt: &(impl Print + Eprint), file: &'a [u8], text: &'b mut [u8])
     requires { 1024 ≤ length text.old }
     ensures { length text.new ≡ length text.old }
 {
@@ -81,7 +84,7 @@ fn whole_into<'a, 'b>(file: &'a [u8], text: &'b mut [u8])
         parts = std::num::wrapping_add_usize(parts, 1);
         sum = cases::checksum_bytes(sum, text, part.used);
         if part.last {
-            print_sum(bytes, parts, sum);
+            print_sum(rt, bytes, parts, sum);
             return;
         }
         line = part.next;
@@ -89,11 +92,11 @@ fn whole_into<'a, 'b>(file: &'a [u8], text: &'b mut [u8])
 }
 
 // whole TABLE - LENGTH: what `formula` writes, in parts of at most so many bytes.
-pub fn whole(file: &[u8], length: usize) {
-    let mut buffer = io::large_buffer();
+pub fn whole(rt: &(impl Print + Eprint), file: &[u8], length: usize) {
+    let mut buffer = [0u8; 65536];
     let n = cases::bytes_within(length, &buffer);
     if n >= 1024 {
-        whole_into(file, &mut buffer[..n]);
+        whole_into(rt, file, &mut buffer[..n]);
     }
 }
 
@@ -110,18 +113,18 @@ fn list_into<'a, 'b>(file: &'a [u8], reply: &'a [u8], buffer: &'b mut [u8], n: u
 }
 
 // list TABLE ANSWER LENGTH: the listing of an answer's procedure, into so many bytes; behind the line the listing.
-pub fn list<'a>(file: &'a [u8], reply: &'a [u8], length: usize) {
+pub fn list<'a>(rt: &(impl Print + Eprint), file: &'a [u8], reply: &'a [u8], length: usize) {
     let mut buffer = [7u8; 24600];
     let outcome = list_into(file, reply, &mut buffer, length);
     match outcome {
         Listed::Refused(question) => {
-            print::refused(question);
-            print::kept_from(&buffer, 0);
+            print::refused(rt, question);
+            print::kept_from(rt, &buffer, 0);
         }
         Listed::Written(used) => {
-            print::number(used);
-            print::kept_from(&buffer, used);
-            print::part(&buffer, used);
+            print::number(rt, used);
+            print::kept_from(rt, &buffer, used);
+            print::part(rt, &buffer, used);
         }
     }
 }

@@ -6,35 +6,40 @@ mod calls;
 mod print;
 mod reader;
 
+use std::rt::Files;
+
 // More than the index has.
 const INDEX_ROOM: usize = 262144;
 
-fn run<'a>(kind: &'a [u8], file: &'a [u8], reply: &'a [u8], a: usize, b: usize) {
-    if check::same(kind, b"formula") {
-        programs::print_formula(file, a);
-    } else if check::same(kind, b"procedure") {
-        programs::print_procedure(file, reply);
-    } else if check::same(kind, b"read") {
-        reader::read(file);
-    } else if check::same(kind, b"check") {
-        calls::check(file);
-    } else if check::same(kind, b"text") {
-        calls::text(file, a, b);
-    } else if check::same(kind, b"whole") {
-        calls::whole(file, a);
-    } else if check::same(kind, b"list") {
-        calls::list(file, reply, a);
+fn run<'a>(
+    rt: &(impl Print + Eprint),
+    kind: &'a [u8],
+    file: &'a [u8],
+    reply: &'a [u8],
+    a: usize,
+    b: usize,
+) {
+    match kind {
+        b"formula" => programs::print_formula(rt, file, a),
+        b"procedure" => programs::print_procedure(rt, file, reply),
+        b"read" => reader::read(rt, file),
+        b"check" => calls::check(rt, file),
+        b"text" => calls::text(rt, file, a, b),
+        b"whole" => calls::whole(rt, file, a),
+        b"list" => calls::list(rt, file, reply, a),
+        _ => {}
     }
 }
 
-fn run_case(line: &[u8]) {
+fn run_case(rt: &(impl Files + Print + Eprint), line: &[u8]) {
     let mut file = programs::file_buffer();
     let mut reply = programs::file_buffer();
-    let n = programs::read_named(cases::field(line, 1), &mut file);
-    let m = programs::read_named(cases::field(line, 2), &mut reply);
-    print::bytes(line);
-    print::line_end();
+    let n = programs::read_named(rt, cases::field(line, 1), &mut file);
+    let m = programs::read_named(rt, cases::field(line, 2), &mut reply);
+    print::bytes(rt, line);
+    print::line_end(rt);
     run(
+        rt,
         cases::field(line, 0),
         &file[..n],
         &reply[..m],
@@ -43,17 +48,17 @@ fn run_case(line: &[u8]) {
     );
 }
 
-fn run_cases(index: &[u8]) {
+fn run_cases(rt: &(impl Files + Print + Eprint), index: &[u8]) {
     let mut at: usize = 0;
     while at < index.len() {
         let end = lines::cut(index, at, index.len(), b'\n');
-        run_case(&index[at..end]);
+        run_case(rt, &index[at..end]);
         at = end + 1;
     }
 }
 
-fn main() {
+fn main(rt: HostRuntime) {
     let mut index = [0u8; INDEX_ROOM];
-    let n = programs::read_named(b"index", &mut index);
-    run_cases(&index[..n]);
+    let n = programs::read_named(&rt, b"index", &mut index);
+    run_cases(&rt, &index[..n]);
 }

@@ -1,55 +1,55 @@
 // Writes bytes, numbers and the fields of an outcome's line.
-use libc::STDOUT_FILENO;
+use std::io;
 
 // Was it written whole? If not, standard error says so.
-fn written(whole: bool) {
-    if !whole {
-        os::fail(b"stored: the output could not be written whole");
+fn written(rt: &impl Eprint, outcome: io::Result<()>) {
+    if outcome.is_err() {
+        let _ = rt.eprintln("stored: the output could not be written whole");
     }
 }
 
-pub fn bytes(text: &[u8]) {
-    written(io::write_all(STDOUT_FILENO, text));
+pub fn bytes(rt: &(impl Print + Eprint), text: &[u8]) {
+    written(rt, rt.write_all(text));
 }
 
-pub fn number(n: usize) {
-    word(n as u64);
+pub fn number(rt: &(impl Print + Eprint), n: usize) {
+    word(rt, n as u64);
 }
 
-pub fn word(n: u64) {
-    written(io::print_decimal(STDOUT_FILENO, n));
+pub fn word(rt: &(impl Print + Eprint), n: u64) {
+    written(rt, rt.print(n));
 }
 
-pub fn tab() {
-    bytes(b"\t");
+pub fn tab(rt: &(impl Print + Eprint)) {
+    bytes(rt, b"\t");
 }
 
-pub fn line_end() {
-    bytes(b"\n");
+pub fn line_end(rt: &(impl Print + Eprint)) {
+    bytes(rt, b"\n");
 }
 
 // A refusal, with the line still open.
-pub fn refused(question: usize) {
-    bytes(b"refused");
-    tab();
-    number(question);
+pub fn refused(rt: &(impl Print + Eprint), question: usize) {
+    bytes(rt, b"refused");
+    tab(rt);
+    number(rt, question);
 }
 
 // The first n bytes of a buffer.
-pub fn part(text: &[u8], n: usize) {
+pub fn part(rt: &(impl Print + Eprint), text: &[u8], n: usize) {
     let m = cases::bytes_within(n, text);
-    bytes(&text[..m]);
+    bytes(rt, &text[..m]);
 }
 
 // The line's last field: do the bytes from `at` on have the value 7 that they had before?
-pub fn kept_from(buffer: &[u8], at: usize) {
+pub fn kept_from(rt: &(impl Print + Eprint), buffer: &[u8], at: usize) {
     let mut i = at;
     while i < buffer.len() {
         if buffer[i] != 7 {
-            bytes(b"\tchanged\n");
+            bytes(rt, b"\tchanged\n");
             return;
         }
         i += 1;
     }
-    bytes(b"\tkept\n");
+    bytes(rt, b"\tkept\n");
 }
