@@ -19,7 +19,8 @@ loop-line-smaller g c = formula_on c.args.file.now c.loop-line.line c.loop-line.
 pub loop-line-preserved : goal.loop-line-preserved
 loop-line-preserved g c =
     let length = part_length (formula_lines c.args.file.now) c.loop-line.line c.loop-line.text c.formula_part-part.ensures in
-    let continues = part_continues (formula_lines c.args.file.now) c.loop-line.line c.loop-line.text c.formula_part-part.ensures in
-    (omega (arith, length, c.loop-line.invariant.0),
-    subst (Appends (g.W.Write.contents c.args.out.now) (g.W.Write.contents c.write_all.new.self)) (sym continues)
-    (Appends-trans _ _ _ _ _ c.loop-line.invariant.1 c.in_ok-write_all.ensures.bytes))
+    let continues = part_continues (formula_lines c.args.file.now) c.loop-line.line c.loop-line.text c.formula_part-part.ensures in (
+      omega (arith, length, c.loop-line.invariant.0),
+      subst (Appends (g.W.Write.contents c.args.out.now) (g.W.Write.contents c.write_all.new.self)) (sym continues)
+          (Appends-trans _ _ _ _ _ c.loop-line.invariant.1 c.in_ok-write_all.ensures.bytes),
+    )
