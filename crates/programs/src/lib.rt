@@ -209,13 +209,13 @@ pub fn write_procedure<W: Write>(file: &[u8], reply: &[u8], out: &mut W) -> io::
 // The same to standard output. There is no outcome to state here and below: nothing comes back, nothing is lent to be written, and what
 // arrives on standard output no contract of the system's calls says.
 pub fn print_formula(rt: &(impl Print + Eprint), file: &[u8], room: usize) {
-    if write_formula(file, room, &mut io::writer(rt)).is_err() {
-        let _ = rt.eprintln("formula: the output could not be written whole");
+    if let Err(error) = write_formula(file, room, &mut io::writer(rt)) {
+        let _ = eprintln!(rt; "formula: the output could not be written whole: {error}");
     }
 }
 
 pub fn print_procedure(rt: &(impl Print + Eprint), file: &[u8], reply: &[u8]) {
-    if write_procedure(file, reply, &mut io::writer(rt)).is_err() {
-        let _ = rt.eprintln("procedure: the output could not be written whole");
+    if let Err(error) = write_procedure(file, reply, &mut io::writer(rt)) {
+        let _ = eprintln!(rt; "procedure: the output could not be written whole: {error}");
     }
 }
