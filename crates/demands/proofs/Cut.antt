@@ -1,20 +1,19 @@
 -- A file that is longer than what was read of it is turned down, and so is what was read: nothing is cut unnoticed.
 -- By questions 2 and 12, which ask for the length before anything else is asked.
-use mathlib.Core.Path.{◌≡◌, refl, sym, ap, ap₂, ◌∙◌}
-use mathlib.Core.Bool.{Bool, true, false, ◌&&◌}
+use mathlib.Core.Path.{◌≡◌, refl, ap, ap₂, ◌∙◌}
+use mathlib.Core.Bool.{false}
 use mathlib.Core.List.{List}
 use mathlib.Core.Logic.{◌⊎◌, inl, inr}
 use Prim.Native.Nat.{ℕ, ◌≤◌, ◌<◌}
 use native.Mathlib.Omega.{arith}
-use lib.ListN.{length, take}
+use lib.ListN.{length}
 use lib.Seq.{take_all, length-take-le}
 use Rattle.lists.proofs.Bool.{leb_no}
 use Rattle.lists.proofs.Order.{le_or_lt}
-use Rattle.planning.specs.Table.{Table}
 use Rattle.table.proofs.Promised.{promises}
 use Rattle.solver.specs.Questions.{met12}
 use Rattle.questions.specs.Questions.{Verdict, unmet, accepted, accepting, after_reading}
-use Rattle.programs.specs.Output.{refused_line, formula_lines, procedure_text}
+use Rattle.programs.specs.Output.{formula_lines, procedure_text}
 use Rattle.programs.specs.Room.{file_room}
 use Rattle.demands.specs.NothingCut.{read_of, NothingCut}
 use Rattle.demands.proofs.Whole.{formula_parts}

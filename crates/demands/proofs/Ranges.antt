@@ -3,7 +3,7 @@
 use mathlib.Core.Path.{◌≡◌, refl, sym, ap, ◌∙◌}
 use mathlib.Core.Bool.{Bool, true, false, ◌&&◌}
 use mathlib.Core.List.{List, [], ◌∷◌}
-use mathlib.Core.Logic.{◌↔◌, ◌⊎◌, inl, inr}
+use mathlib.Core.Logic.{◌⊎◌, inl, inr}
 use Prim.Native.Nat.{ℕ, zero, suc, ◌≤◌}
 use native.Mathlib.Omega.{arith}
 use lib.ListN.{length}
@@ -15,7 +15,6 @@ use Rattle.planning.specs.Variable.{variables}
 use Rattle.planning.specs.Clause.{formula}
 use Rattle.planning.specs.Text.{bytes_used, next_line}
 use Rattle.nodes.specs.Tree.{enough_tree}
-use Rattle.nodes.specs.declared.Node.{Node}
 use Rattle.questions.specs.Questions.{Verdict, unmet, accepted, accepting, by_number, by_verdict, asked, HandedBack, turned_down, taken}
 use Rattle.questions.proofs.Acceptance.{unmet_range}
 use Rattle.encoding.specs.Calls.{enough_text, questions_writing, questions_of_line}
