@@ -3,8 +3,8 @@ use std::io;
 
 // Was it written whole? If not, standard error says so.
 fn written(rt: &impl Eprint, outcome: io::Result<()>) {
-    if outcome.is_err() {
-        let _ = rt.eprintln("stored: the output could not be written whole");
+    if let Err(error) = outcome {
+        let _ = eprintln!(rt; "stored: the output could not be written whole: {error}");
     }
 }
 
