@@ -4,8 +4,5 @@ use Rattle.std.proofs.Common.{◌-◌}
 use Rattle.table.specs.Layout.{table_in}
 use Rattle.stored.proofs.reader.print_facts.Given as goal
 
-abbrev pub invariant-loop-i : goal.invariant-loop-i
-invariant-loop-i l = Unit {0}
-
 abbrev pub decreases-loop-i : goal.decreases-loop-i
-decreases-loop-i l = (table_in l.ws).facts - i
+decreases-loop-i g l = (table_in l.ws).facts - l.i

@@ -4,8 +4,5 @@ use Rattle.std.proofs.Common.{◌-◌, length}
 use Rattle.table.specs.Layout.{table_in}
 use Rattle.stored.proofs.reader.print_methods.Given as goal
 
-abbrev pub invariant-loop-m : goal.invariant-loop-m
-invariant-loop-m l = Unit {0}
-
 abbrev pub decreases-loop-m : goal.decreases-loop-m
-decreases-loop-m l = length (table_in l.ws).methods - m
+decreases-loop-m g l = length (table_in l.ws).methods - l.m

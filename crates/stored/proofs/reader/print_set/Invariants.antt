@@ -3,8 +3,5 @@
 use Rattle.std.proofs.Common.{◌-◌}
 use Rattle.stored.proofs.reader.print_set.Given as goal
 
-abbrev pub invariant-loop-i : goal.invariant-loop-i
-invariant-loop-i l = Unit {0}
-
 abbrev pub decreases-loop-i : goal.decreases-loop-i
-decreases-loop-i l = l.facts - i
+decreases-loop-i g l = l.facts - l.i
