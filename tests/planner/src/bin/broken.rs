@@ -44,7 +44,7 @@ fn store_cases(seed: &str, tables: &str, most: &str) {
 fn attempt() -> Tried {
     let folder = Path::new("crates").join(PROGRAM);
     let mut command = Command::new("timeout");
-    command.args(["120", "rt", "try"]).current_dir(&folder);
+    command.args(["240", "rt", "try", "--seconds", "120"]).current_dir(&folder);
     let data = std::fs::read_dir(folder.join("data")).expect("the cases are stored");
     for name in data.filter_map(|entry| entry.ok()?.file_name().into_string().ok()) {
         command.args(["--data".to_string(), format!("{name}=data/{name}")]);
