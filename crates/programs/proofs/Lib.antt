@@ -1,5 +1,3 @@
--- counts within a buffer
-pub mod Counting
 -- how long the lines are
 pub mod Lines
 -- a part has a line at least

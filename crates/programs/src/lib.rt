@@ -1,6 +1,6 @@
 // What the programs `formula` and `procedure` do: read a file whole, work out what is to be written, and write it. What is written is a
 // definition's value for every file (specs/Output); that the operating system takes it all is not known here, so a short write is told on
-// standard error. A program has no exit status: whoever runs it takes a line there for a failure.
+// standard error. The programs end with status 0 all the same: whoever runs them takes a line there for a failure.
 #![tactic(auto)]
 
 ghost use Rattle.std.specs.Prelude.{◌≡◌, ℕ, ◌≤◌, ◌<◌, [], ◌∷◌, length, OnOk};

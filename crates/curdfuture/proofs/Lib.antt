@@ -1,2 +1,0 @@
--- how an answer crosses the border
-pub mod Crossing
