@@ -1,29 +1,32 @@
--- Questions 12 to 15, put to an answer that was read into cells, and the values then.
--- By what the reading of the answer says, and by whether every clause is satisfied.
+-- Questions 12 to 14, put to an answer that was read into cells, and the values then.
+-- By what the reading of the answer says.
 use mathlib.Core.Path.{◌≡◌, sym, ap, ◌∙◌, subst}
-use mathlib.Core.Bool.{Bool, true, false, not}
+use mathlib.Core.Bool.{true}
 use mathlib.Core.List.{List, [], ◌∷◌}
-use Prim.Native.Nat.{ℕ}
+use Prim.Native.Nat.{ℕ, ◌≤◌}
+use native.Mathlib.Omega.{arith}
 use lib.ListN.{length, take}
+use lib.Seq.{take-length, length-take-le}
 use Rattle.lists.specs.Question.{first_unmet}
-use Rattle.lists.proofs.Bool.{said_no, said_yes}
+use Rattle.unmet.specs.declared.Unmet.{Unmet}
+use Rattle.unmet.specs.Number.{number_of}
 use Rattle.planning.specs.Table.{Table}
 use Rattle.planning.specs.Variable.{variables}
-use Rattle.planning.specs.Clause.{formula}
-use Rattle.planning.specs.Model.{value, satisfies, Model, bits, truths_in}
+use Rattle.planning.specs.Model.{Model, bits}
+use Rattle.table.specs.Layout.{table_in}
+use Rattle.tree.specs.declared.Count.{Count}
 use Rattle.solver.specs.File.{answer_of}
 use Rattle.solver.specs.Questions.{met12, met13, met14, numbers_said}
 use Rattle.solver.specs.Scan.{Heard}
 use Rattle.solver.proofs.Once.{truths_length}
 use Rattle.solver.proofs.Reading.{heard_is}
 use Rattle.cells.specs.Read.{Read}
+use Rattle.questions.specs.Own.{Owned}
+use Rattle.questions.proofs.Indexing.{acceptance}
 use Rattle.answer.specs.Calls.{met15, answered, questions_of_answer}
-use Rattle.answer.proofs.Questions.{unmet_three, unmet_15, all_four}
-use Rattle.answer.proofs.Bits.{bits_back, bits_length}
-
--- what was read is what the answer says
-pub heard_by : {n q : ℕ} {answer cells : List ℕ} → Read n answer cells q → Heard n answer cells q
-heard_by {n} {q} {answer} {cells} r = heard_is n answer cells q r.question r.values
+use Rattle.answer.specs.Parts.{questions_heard}
+use Rattle.answer.proofs.Bits.{bits_length}
+use Rattle.answer.proofs.Questions.{unmet_three, met_three}
 
 pub answered_length : (T : Table) (answer : List ℕ) → length (answered T answer) ≡ variables T
 answered_length T answer = truths_length (variables T) (numbers_said (answer_of answer))
@@ -31,48 +34,37 @@ answered_length T answer = truths_length (variables T) (numbers_said (answer_of 
 pub answered_model : (T : Table) (answer : List ℕ) → met15 T (answered T answer) ≡ true → Model T (answered T answer)
 answered_model T answer e = record { whole = answered_length T answer; true_clauses = e }
 
-module _ (T : Table) (answer : List ℕ) {n q : ℕ} {cells : List ℕ} (e : n ≡ variables T) (h : Heard n answer cells q) where
-  abbrev b12 : Bool
-  b12 = met12 answer
+-- What was read into as many cells as the table has variables
+module _ {file table tree : List ℕ} {c : Count} {v : ℕ} (o : Owned file table tree c v) (answer cells : List ℕ) (l : length cells ≡ 8191) where
+  abbrev T : Table
+  T = table_in table
 
-  abbrev b13 : Bool
-  b13 = met13 answer
+  count : length (take v cells) ≡ v
+  count = length-take-le v cells (omega (arith, l, o.variables, (acceptance o).few_variables))
 
-  abbrev b14 : Bool
-  b14 = met14 (variables T) answer
+  module _ {cells' : List ℕ} {q : ℕ} (r : Read (length (take v cells)) answer cells' q) where
+    heard : Heard (variables (table_in table)) answer cells' q
+    heard = subst (λ (k : ℕ). Heard k answer cells' q) (count ∙ o.variables) (heard_is (length (take v cells)) answer cells' q r.question r.values)
 
-  abbrev b15 : Bool
-  b15 = met15 T (answered T answer)
+    pub question : q ≡ first_unmet (questions_heard answer (table_in table))
+    question = heard.question
 
-  heard : Heard (variables T) answer cells q
-  heard = subst (λ (k : ℕ). Heard k answer cells q) e h
+    pub values : q ≡ 0 → length cells' ≡ length (take v cells) → cells' ≡ bits (answered (table_in table) answer)
+    values z k = sym (take-length cells') ∙ ap (λ (n : ℕ). take n cells') (k ∙ count ∙ o.variables) ∙ heard.values z
 
-  pub not_heard : (q ≡ 0 → ⊥) → first_unmet (questions_of_answer answer T) ≡ q
-  not_heard u = unmet_three b12 b13 b14 b15 heard.question u
+-- no question has the number 0
+pub not_0 : (q : Unmet) → number_of q ≡ 0 → ⊥
+not_0 q e = grind arith
 
-  module _ (z : q ≡ 0) where
-    met : 0 ≡ first_unmet ((12, b12) ∷ (13, b13) ∷ (14, b14) ∷ [])
-    met = sym z ∙ heard.question
+-- Which of 12 to 15 is the first that is not met
+module _ (T : Table) (answer : List ℕ) where
+  pub one_unmet : {q : ℕ} → q ≡ first_unmet (questions_heard answer T) → (q ≡ 0 → ⊥) → first_unmet (questions_of_answer answer T) ≡ q
+  one_unmet e u = unmet_three (met12 answer) (met13 answer) (met14 (variables T) answer) (met15 T (answered T answer)) e u
 
-    pub same : take n cells ≡ bits (answered T answer)
-    same = ap (λ (k : ℕ). take k cells) e ∙ heard.values z
+  -- 15 is left
+  pub three_met : 0 ≡ first_unmet (questions_heard answer T) → first_unmet (questions_of_answer answer T) ≡ first_unmet ((15, met15 T (answered T answer)) ∷ [])
+  three_met e = met_three (met12 answer) (met13 answer) (met14 (variables T) answer) (met15 T (answered T answer)) e
 
-    pub same_truths : truths_in (take n cells) ≡ answered T answer
-    same_truths = ap truths_in same ∙ bits_back (answered T answer)
-
-    pub same_length : length (take n cells) ≡ variables T
-    same_length = ap length same ∙ (bits_length (answered T answer) ∙ answered_length T answer)
-
-    -- 15 was put to the values
-    module _ {b : Bool} (s : b ≡ satisfies (value (truths_in (take n cells))) (formula T)) where
-      put : b ≡ b15
-      put = s ∙ ap (λ (vs : List Bool). met15 T vs) same_truths
-
-      pub not_model : not b ≡ true → first_unmet (questions_of_answer answer T) ≡ 15
-      not_model f = unmet_15 b12 b13 b14 b15 met (said_no put f)
-
-      pub satisfied : not b ≡ false → met15 T (answered T answer) ≡ true
-      satisfied f = said_yes put f
-
-      pub all_met : not b ≡ false → first_unmet (questions_of_answer answer T) ≡ 0
-      all_met f = all_four b12 b13 b14 b15 met (satisfied f)
+  -- the values are as many as the table has variables
+  pub values_length : {xs : List ℕ} → xs ≡ bits (answered T answer) → length xs ≡ variables T
+  values_length e = ap length e ∙ bits_length (answered T answer) ∙ answered_length T answer

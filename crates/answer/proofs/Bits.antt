@@ -1,15 +1,21 @@
 -- Values as 0 and 1.
 -- By recursion on the values.
 use mathlib.Core.Path.{◌≡◌, refl, ap, ap₂}
-use mathlib.Core.Bool.{Bool, true, false}
+use mathlib.Core.Bool.{Bool, true, false, ◌&&◌}
 use mathlib.Core.List.{List, [], ◌∷◌}
 use Prim.Native.Nat.{ℕ, zero, suc, ◌≤◌}
 use native.Mathlib.Omega.{arith}
 use lib.Dec.{eqb, leb}
 use lib.ListN.{length, length-map}
+use Rattle.std.specs.List.{list_all}
 use Rattle.lists.specs.List.{all}
 use Rattle.lists.proofs.Bool.{and_l, and_r, leb_sound}
 use Rattle.planning.specs.Model.{bit, bits, truths_in}
+
+-- a test of each of them, as the library has it
+pub list_all_lem : (p : ℕ → Bool) (xs : List ℕ) → list_all p xs ≡ all p xs
+list_all_lem p [] = refl
+list_all_lem p (x ∷ xs) = ap (λ (b : Bool). p x && b) (list_all_lem p xs)
 
 pub bits_back : (vs : List Bool) → truths_in (bits vs) ≡ vs
 bits_back [] = refl

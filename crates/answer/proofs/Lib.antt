@@ -5,11 +5,7 @@ pub mod Computed
 pub mod Questions
 pub mod Acceptance
 pub mod Bits
--- the calls, part by part and whole
+-- the calls, part by part
 pub mod Answered
-pub mod Taking
-pub mod Lending
 pub mod Showing
-pub mod ShowingAnswer
-pub mod Loops
 pub mod Outcomes

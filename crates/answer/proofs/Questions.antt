@@ -26,7 +26,7 @@ module _ (b c d e : Bool) where
       go true true true h = absurd (u h)
 
   -- they are met, and 15 is or is not
-  met_three : 0 ≡ first_unmet (three b c d) → first_unmet (four b c d e) ≡ first_unmet ((15, e) ∷ [])
+  pub met_three : 0 ≡ first_unmet (three b c d) → first_unmet (four b c d e) ≡ first_unmet ((15, e) ∷ [])
   met_three h = go b c d h
     where
       go : (b c d : Bool) → 0 ≡ first_unmet (three b c d) → first_unmet (four b c d e) ≡ first_unmet ((15, e) ∷ [])
@@ -34,12 +34,6 @@ module _ (b c d e : Bool) where
       go true false d h = absurd (omega arith)
       go true true false h = absurd (omega arith)
       go true true true h = refl
-
-  pub unmet_15 : 0 ≡ first_unmet (three b c d) → e ≡ false → first_unmet (four b c d e) ≡ 15
-  unmet_15 h q = met_three h ∙ rw q
-
-  pub all_four : 0 ≡ first_unmet (three b c d) → e ≡ true → first_unmet (four b c d e) ≡ 0
-  all_four h q = met_three h ∙ rw q
 
 pub record FourMet (b c d e : Bool) : Type 0 where
   pub twelfth : b ≡ true
@@ -66,18 +60,7 @@ module _ (qs : List (ℕ × Bool)) where
   tenth_met false h = absurd (omega arith)
   tenth_met true h = (refl, h)
 
--- Of lent values: 14 and 15 -----------------------------------------------------------------------------------------------------
-module _ (d e : Bool) where
-  pub lent_14 : d ≡ false → first_unmet ((14, d) ∷ (15, e) ∷ []) ≡ 14
-  lent_14 q = rw q
-
-  pub lent_15 : d ≡ true → e ≡ false → first_unmet ((14, d) ∷ (15, e) ∷ []) ≡ 15
-  lent_15 q r = rw (q, r)
-
-  pub lent_all : d ≡ true → e ≡ true → first_unmet ((14, d) ∷ (15, e) ∷ []) ≡ 0
-  lent_all q r = rw (q, r)
-
--- and 10 before them
+-- Of lent values: 10, 14 and 15 -----------------------------------------------------------------------------------------------------
 pub lent_three : (a d e : Bool) → a ≡ true → d ≡ true → e ≡ true → first_unmet ((10, a) ∷ (14, d) ∷ (15, e) ∷ []) ≡ 0
 lent_three a d e p q r = rw (p, q, r)
 

@@ -1,87 +1,80 @@
--- What the part of the call that lists a procedure leaves, question by question.
--- By the first question that is not met; where all are met the values are a model, and it gives a tree.
-use mathlib.Core.Path.{◌≡◌, refl, sym, ap, ap₂, ◌∙◌}
-use mathlib.Core.Bool.{Bool, true, false, not}
+-- The part of the calls that list: question 15, and the lines.
+-- Where the values are a model, it gives a tree.
+use mathlib.Core.Path.{◌≡◌, sym, ap, ap₂, ◌∙◌, subst}
+use mathlib.Core.Bool.{Bool, true, false}
 use mathlib.Core.List.{List, [], ◌∷◌, ◌++◌}
-use Prim.Native.Nat.{ℕ, zero, suc, ◌≤◌}
+use Prim.Native.Nat.{ℕ, ◌≤◌}
 use native.Mathlib.Omega.{arith}
-use lib.Dec.{eqb, leb}
-use lib.ListN.{length, take, drop, length-map}
+use lib.Dec.{eqb}
+use lib.ListN.{length, drop, length-map}
 use lib.Seq.{length-take-le}
-use Rattle.lists.specs.List.{all}
+use Rattle.std.specs.Prelude.{Ok, Err}
+use Rattle.unmet.specs.declared.Unmet.TheVariants.{Satisfied}
 use Rattle.lists.specs.Question.{first_unmet}
 use Rattle.lists.specs.Written.{Wrote}
-use Rattle.lists.proofs.Bool.{said_no, said_yes}
 use Rattle.lists.proofs.Written.{wrote_whole}
 use Rattle.planning.specs.Table.{Table}
 use Rattle.planning.specs.Variable.{variables}
-use Rattle.planning.specs.Clause.{formula}
-use Rattle.planning.specs.Model.{value, satisfies, Model, truths_in}
+use Rattle.planning.specs.Model.{value, Model, truths_in}
 use Rattle.planning.specs.Accepted.{Accepted}
 use Rattle.planning.proofs.Demand3.{demand3}
+use Rattle.table.specs.Layout.{table_in, name_parts_in}
+use Rattle.tree.specs.declared.Count.{Count}
 use Rattle.listing.specs.Listing.{Names, shown_names}
-use Rattle.listing.specs.Walk.{walked, value_of}
+use Rattle.listing.specs.Walk.{walked, value_of, ShortNames, Listable}
 use Rattle.listing.proofs.Walked.{walked_is}
 use Rattle.questions.specs.Questions.{names_of, taken}
-use Rattle.answer.specs.Calls.{met15, own, lent14, lent, listing_of, listing_for, shown}
-use Rattle.answer.specs.Parts.{questions_of_values, Showed}
-use Rattle.answer.specs.declared.Listed.TheVariants.{Refused, Written}
-use Rattle.answer.proofs.Questions.{lent_14, lent_15, lent_all}
-
-refused_by : {file : List ℕ} {T : Table} {values text : List ℕ} {q : ℕ} → first_unmet (questions_of_values values T) ≡ q → (q ≡ 0 → ⊥)
-    → Showed file T values text text (Refused q)
-refused_by {file} {T} {values} {text} {q} e u = go q e u
-  where
-    go : (q : ℕ) → first_unmet (questions_of_values values T) ≡ q → (q ≡ 0 → ⊥) → Showed file T values text text (Refused q)
-    go zero e u = absurd (u refl)
-    go (suc n) e u = record { handed_back = sym (rw e); left = sym (rw e) }
+use Rattle.questions.specs.Own.{Owned}
+use Rattle.questions.proofs.Indexing.{acceptance}
+use Rattle.answer.specs.Calls.{met15, own, lent, listing_of, listing_for}
+use Rattle.answer.specs.Parts.{Showed}
+use Rattle.answer.proofs.Acceptance.{short_names}
 
 -- a model's values, read node by node, are the listing of the tree that it gives
-pub model_walked : (T : Table) → Accepted T → (file : List ℕ) {vs : List Bool} → Model T vs → walked T (shown_names file (names_of file)) (value vs) ≡ listing_for file T vs
+model_walked : (T : Table) → Accepted T → (file : List ℕ) {vs : List Bool} → Model T vs → walked T (shown_names file (names_of file)) (value vs) ≡ listing_for file T vs
 model_walked T a file {vs} m =
     let N = shown_names file (names_of file) in
     let g = (demand3 T a.sound).gives vs m in
     walked_is N m g.1 ∙ sym (ap (listing_of N) g.1)
 
--- Lent values that meet 14 and 15 --------------------------------------------------------------------------------------------------
-module _ (T : Table) (a : Accepted T) (values : List ℕ) (long : 8191 ≤ length values) where
-  own_length : length (own T values) ≡ variables T
-  own_length = length-take-le (variables T) values (omega (arith, a.few_variables))
+-- lent values that meet 15 are a model's
+pub lent_model : (T : Table) → Accepted T → (values : List ℕ) → 8191 ≤ length values → met15 T (lent T values) ≡ true → Model T (lent T values)
+lent_model T a values l e = record {
+  whole = length-map (own T values) (eqb 1) ∙ length-take-le (variables T) values (omega (arith, a.few_variables));
+  true_clauses = e;
+}
 
-  pub lent_model : met15 T (lent T values) ≡ true → Model T (lent T values)
-  lent_model e = record { whole = length-map (own T values) (eqb 1) ∙ own_length; true_clauses = e }
+module _ {file table tree : List ℕ} {c : Count} {v : ℕ} (o : Owned file table tree c v) (values : List ℕ) (whole : length values ≡ variables (table_in table)) where
+  abbrev T : Table
+  T = table_in table
 
-  -- the listing of the tree that they give is what is read node by node
-  pub shown_walked : (file : List ℕ) → met15 T (lent T values) ≡ true → walked T (shown_names file (names_of file)) (value_of (own T values)) ≡ shown file values T
-  shown_walked file e = model_walked T a file (lent_model e)
+  -- a table's names are those of its file
+  own_names : shown_names file (name_parts_in table) ≡ shown_names file (names_of file)
+  own_names = ap (shown_names file) o.names
 
-module _ (file : List ℕ) (T : Table) (values text : List ℕ) {n : ℕ} (e : n ≡ variables T) where
-  same : take n values ≡ own T values
-  same = ap (λ (k : ℕ). take k values) e
+  pub listable : Listable table file tree values
+  listable = record {
+    words = o.records;
+    long = omega (arith, whole);
+    short = subst (λ (N : Names). ShortNames N) (sym own_names) (short_names file T o.verdict);
+  }
 
-  binary : {b : Bool} → b ≡ all (λ v. leb v 1) (take n values) → b ≡ lent14 T values
-  binary q = q ∙ ap (all (λ v. leb v 1)) same
+  module _ (text : List ℕ) {b : Bool} (s : b ≡ met15 (table_in table) (truths_in values)) where
+    pub not_model : b ≡ false → Showed file (table_in table) (truths_in values) text text (Err Satisfied)
+    not_model f =
+        let u : first_unmet ((15, met15 T (truths_in values)) ∷ []) ≡ 15 = rw (sym s ∙ f) in
+        record { handed_back = sym (rw u); left = sym (rw u) }
 
-  put : {b : Bool} → b ≡ satisfies (value (truths_in (take n values))) (formula T) → b ≡ met15 T (lent T values)
-  put q = q ∙ ap (λ (vs : List ℕ). met15 T (truths_in vs)) same
-
-  pub not_binary : {b : Bool} → b ≡ all (λ v. leb v 1) (take n values) → not b ≡ true → Showed file T values text text (Refused 14)
-  not_binary q f = refused_by (lent_14 (lent14 T values) (met15 T (lent T values)) (said_no (binary q) f)) (λ z. omega arith)
-
-  module _ {b : Bool} (q : b ≡ all (λ v. leb v 1) (take n values)) (y : not b ≡ false) {d : Bool}
-      (s : d ≡ satisfies (value (truths_in (take n values))) (formula T)) where
-    pub not_model : not d ≡ true → Showed file T values text text (Refused 15)
-    not_model f = refused_by (lent_15 (lent14 T values) (met15 T (lent T values)) (said_yes (binary q) y) (said_no (put s) f)) (λ z. omega arith)
-
-    pub showed : not d ≡ false → Accepted T → 8191 ≤ length values → {N : Names} → N ≡ shown_names file (names_of file) → {text' : List ℕ} {r : ℕ}
-        → Wrote text 0 (walked T N (value_of (take n values))) text' r → Showed file T values text text' (Written r)
-    showed f a long {N} k {text'} {r} w =
-        let f15 : met15 T (lent T values) ≡ true = said_yes (put s) f in
-        let u : first_unmet (questions_of_values values T) ≡ 0 = lent_all (lent14 T values) (met15 T (lent T values)) (said_yes (binary q) y) f15 in
-        let z : walked T N (value_of (take n values)) ≡ shown file values T =
-        ap₂ (λ (M : Names) (vs : List ℕ). walked T M (value_of vs)) k same ∙ shown_walked T a values long file f15 in
-        let j : r ≡ length (shown file values T) = omega (arith, w.end, ap length z) in
+    pub showed : b ≡ true → {text' : List ℕ} {r : ℕ} → Wrote text 0 (walked (table_in table) (shown_names file (name_parts_in table)) (value_of values)) text' r
+        → Showed file (table_in table) (truths_in values) text text' (Ok r)
+    showed f {text'} {r} w =
+        let t : met15 T (truths_in values) ≡ true = sym s ∙ f in
+        let u : first_unmet ((15, met15 T (truths_in values)) ∷ []) ≡ 0 = rw t in
+        let m : Model T (truths_in values) = record { whole = length-map values (eqb 1) ∙ whole; true_clauses = t } in
+        let k : walked T (shown_names file (name_parts_in table)) (value_of values) ≡ listing_for file T (truths_in values) =
+        ap (λ (N : Names). walked T N (value_of values)) own_names ∙ model_walked T (acceptance o) file m in
+        let j : r ≡ length (listing_for file T (truths_in values)) = omega (arith, w.end, ap length k) in
         record {
           handed_back = ap (λ (j : ℕ). taken (j ∷ [])) j ∙ sym (rw u);
-          left = wrote_whole w ∙ (ap (λ (xs : List ℕ). xs ++ drop (length xs) text) z ∙ sym (rw u));
+          left = wrote_whole w ∙ (ap (λ (xs : List ℕ). xs ++ drop (length xs) text) k ∙ sym (rw u));
         }

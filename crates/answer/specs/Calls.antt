@@ -1,8 +1,9 @@
 -- The calls that take an answer and list a procedure: what each hands back and leaves in what it was lent, for every file, every tree,
 -- every answer and every buffer. Assumes nothing.
-use Rattle.std.specs.Prelude.{Bool, ◌&&◌, List, [], ◌∷◌, ◌++◌, ℕ, leb, length, take, drop}
+use Rattle.std.specs.Prelude.{Bool, ◌&&◌, List, [], ◌∷◌, ◌++◌, ℕ, leb, length, take, drop, Result}
 use Rattle.std.proofs.Math.Option.{Option, none, some}
 use Rattle.lists.specs.List.{all}
+use Rattle.unmet.specs.declared.Unmet.{Unmet}
 use Rattle.planning.specs.Table.{Table}
 use Rattle.planning.specs.Tree.{Tree}
 use Rattle.planning.specs.Variable.{variables}
@@ -12,11 +13,7 @@ use Rattle.nodes.specs.Tree.{enough_tree, met10}
 use Rattle.nodes.specs.declared.Node.{Node}
 use Rattle.solver.specs.Questions.{met12, met13, met14, values_of}
 use Rattle.listing.specs.Listing.{Names, shown_names, listing}
-use Rattle.questions.specs.Questions.{names_of, asked, HandedBack, turned_down, taken}
-use Rattle.answer.specs.declared.Taken.{Taken}
-use Rattle.answer.specs.declared.Taken.TheVariants.{Refused as TakeRefused, Values}
-use Rattle.answer.specs.declared.Listed.{Listed}
-use Rattle.answer.specs.declared.Listed.TheVariants.{Refused as ListRefused, Written}
+use Rattle.questions.specs.Questions.{names_of, asked, HandedBack, turned_down, taken, handed}
 
 -- 1. "Are lent buffers long enough: .. 8,191 for values, 24,576 for a listing?"
 abbrev pub enough_values : List ℕ → Bool
@@ -31,9 +28,8 @@ abbrev pub met15 : Table → List Bool → Bool
 met15 T vs = satisfies (value vs) (formula T)
 
 -- Taking an answer: 1, 2 to 9, 10, 12 to 15 ----------------------------------------------------------------------------------------
-abbrev pub taken_from : Taken → HandedBack
-taken_from (TakeRefused n) = turned_down n
-taken_from (Values n) = taken (n ∷ [])
+abbrev pub taken_from : Result ℕ Unmet → HandedBack
+taken_from r = handed (λ n. n ∷ []) r
 
 -- the values that an answer gives a table's variables
 abbrev pub answered : Table → List ℕ → List Bool
@@ -58,9 +54,8 @@ values_after file tree answer values =
     (λ T. bits (answered T answer) ++ drop (variables T) values)
 
 -- Listing a procedure: 1, 2 to 9, 10, 14, 15 ---------------------------------------------------------------------------------------
-abbrev pub listed_from : Listed → HandedBack
-listed_from (ListRefused n) = turned_down n
-listed_from (Written n) = taken (n ∷ [])
+abbrev pub listed_from : Result ℕ Unmet → HandedBack
+listed_from r = handed (λ n. n ∷ []) r
 
 -- "Where values are lent in place of an answer file": only the table's own variables are looked at
 abbrev pub own : Table → List ℕ → List ℕ

@@ -1,10 +1,15 @@
 -- The loops' invariants: how each starts, goes on and ends.
 -- By the laws of members and words.
-use Rattle.std.proofs.Common.{◌≡◌, ℕ, suc, ◌+◌, ◌-◌, ◌*◌, ◌%◌, ◌^◌, ◌<◌, ◌≤◌, min, true, false, List, [], ◌∷◌, ◌++◌, length, get_or, take, drop, set, sym, refl, ap, ◌∙◌, add-one, arith, length-append, length-set, take_all, drop-cons, take_at}
+use Rattle.std.proofs.Common.{◌≡◌, ℕ, zero, suc, fold, ◌+◌, ◌-◌, ◌*◌, ◌%◌, ◌^◌, ◌<◌, ◌≤◌, min, true, false, List, [], ◌∷◌, ◌++◌, length, get_or, take, drop, set, sym, refl, ap, ◌∙◌, add-one, arith, length-append, length-set, take_all, drop-cons, take_at}
+use Rattle.std.proofs.lemmas.List.{drop_all}
+use mir.Syntax.{w64}
+use mir.Val.{Fits}
 use lib.Count.{ones}
 use lib.Seq.{set_at, append_snoc}
 use Rattle.lists.specs.List.{filter, from}
 use Rattle.bitset.specs.Set.{onto, contains, members_below, members, Listed}
+use mathlib.Core.Logic.{◌⊎◌, inl, inr}
+use Rattle.lists.proofs.Order.{le_or_lt}
 use Rattle.bitset.proofs.Members.{below_add, below_member, below_other, below_end, count_word}
 use Rattle.bitset.proofs.Words.{onto_none, onto_more, onto_enough}
 
@@ -22,6 +27,19 @@ counted_word {ws} {n} {k} u h f = record { at = omega arith; count = omega (arit
 
 pub counted_all : {ws : List ℕ} {n k : ℕ} → Counted ws n k → length ws ≤ k → n ≡ length (members ws) % 2 ^ 64
 counted_all {ws} {n} {k} u h = let e : k ≡ length ws = omega (arith, u.at) in rw e at u.count
+
+-- a fold that adds the digits set in each word counts all members
+pub counted_fold : (ws : List ℕ) → ((i : ℕ) → Fits w64 (get_or ws i 0)) → fold (λ (n w : ℕ). (n + ones w) % 2 ^ 64) 0 ws ≡ length (members ws) % 2 ^ 64
+counted_fold ws fits = go (length ws) 0 0 (omega arith) (counted_none ws)
+  where
+    go : (d k n : ℕ) → d + k ≡ length ws → Counted ws n k → fold (λ (n w : ℕ). (n + ones w) % 2 ^ 64) n (drop k ws) ≡ length (members ws) % 2 ^ 64
+    go zero k n e u =
+        let h : length ws ≤ k = omega arith in
+        rw (drop_all k ws h) (counted_all u h)
+    go (suc d) k n e u =
+        let h : k < length ws = omega arith in
+        rw (drop-cons ws k 0 h)
+        (go d (suc k) ((n + ones (get_or ws k 0)) % 2 ^ 64) (omega arith) (rw (add-one k) at (counted_word u h (fits k).fits)))
 
 -- `unite` and `subtract`: the words before k are combined with their partners ----------------------------------------------
 pub record Combined (f : ℕ → ℕ → ℕ) (ws₀ vs ws : List ℕ) (k : ℕ) : Type 0 where
@@ -41,11 +59,12 @@ module _ {f : ℕ → ℕ → ℕ} where
       }
 
   -- it ends where either list does
-  pub combined_partners : {ws₀ vs ws : List ℕ} {k : ℕ} → Combined f ws₀ vs ws k → length vs ≤ k → ws ≡ onto f ws₀ vs
-  combined_partners {ws₀} {vs} {ws} {k} u h = u.words ∙ ap (onto f ws₀) (take_all k vs h)
-
-  pub combined_words : {ws₀ vs ws : List ℕ} {k : ℕ} → Combined f ws₀ vs ws k → length ws ≤ k → ws ≡ onto f ws₀ vs
-  combined_words {ws₀} {vs} {ws} {k} u h = u.words ∙ onto_enough f ws₀ vs k (omega (arith, u.same))
+  pub combined_end : {ws₀ vs ws : List ℕ} {k e : ℕ} → Combined f ws₀ vs ws k → e ≡ min (length ws₀) (length vs) → e ≤ k → ws ≡ onto f ws₀ vs
+  combined_end {ws₀} {vs} {ws} {k} {e} u m h = u.words ∙ go (le_or_lt (length vs) k)
+    where
+      go : (length vs ≤ k) ⊎ (k < length vs) → onto f ws₀ (take k vs) ≡ onto f ws₀ vs
+      go (inl l) = ap (onto f ws₀) (take_all k vs l)
+      go (inr l) = onto_enough f ws₀ vs k (omega arith)
 
 -- `list`: the members below i stand at the front of o, r of them -------------------------------------------------------------
 pub record Written (ws o₀ o : List ℕ) (e r i : ℕ) : Type 0 where
@@ -56,6 +75,10 @@ pub record Written (ws o₀ o : List ℕ) (e r i : ℕ) : Type 0 where
 
 pub written_none : (ws o : List ℕ) (e : ℕ) → Written ws o o e 0 0
 written_none ws o e = record { at = omega arith; same = refl; count = refl; text = refl }
+
+-- no more stand there than there is room for
+pub written_room : {ws o₀ o : List ℕ} {e r i : ℕ} → Written ws o₀ o e r i → r ≤ length o
+written_room {ws} {o₀} {o} {e} {r} {i} u = omega (arith, u.count, u.same, ap length u.text, length-append (members_below ws i) (drop r o₀))
 
 pub written_member : {ws o₀ o : List ℕ} {e r i : ℕ} → Written ws o₀ o e r i → i < e → r < length o → contains ws i ≡ true
     → Written ws o₀ (set o r i) e (r + 1) (i + 1)

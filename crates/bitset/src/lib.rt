@@ -11,11 +11,7 @@ pub fn has(ws: &[u64], i: usize) -> bool
     ensures { result ≡ contains ws.now i }
 {
     let k = i / 64;
-    if k < ws.len() {
-        (ws[k] >> (i % 64)) % 2 == 1
-    } else {
-        false
-    }
+    k < ws.len() && (ws[k] >> (i % 64)) % 2 == 1
 }
 
 // The word whose one bit is that of i.
@@ -31,18 +27,17 @@ pub fn insert(ws: &mut [u64], i: usize)
 {
     let k = i / 64;
     if k < ws.len() {
-        ws[k] = ws[k] | single(i);
+        ws[k] |= single(i);
     }
 }
 
-// Makes the members of vs members of ws, as far as ws has words for them.
+// Makes the members of vs members of ws, as far as ws has words for them. By the words' places here and in `subtract`: of what
+// `ws.iter_mut().zip(vs)` leaves in ws a proof knows the length alone.
 pub fn unite(ws: &mut [u64], vs: &[u64])
     ensures { ws.new ≡ union ws.old vs.now }
 {
-    let mut k: usize = 0;
-    while k < ws.len() && k < vs.len() {
-        ws[k] = ws[k] | vs[k];
-        k += 1;
+    for k in 0..ws.len().min(vs.len()) {
+        ws[k] |= vs[k];
     }
 }
 
@@ -50,12 +45,8 @@ pub fn unite(ws: &mut [u64], vs: &[u64])
 pub fn subtract(ws: &mut [u64], vs: &[u64])
     ensures { ws.new ≡ difference ws.old vs.now }
 {
-    let mut k: usize = 0;
-    while k < ws.len() && k < vs.len() {
-        let w = ws[k];
-        let v = vs[k];
-        ws[k] = w - (w & v);
-        k += 1;
+    for k in 0..ws.len().min(vs.len()) {
+        ws[k] -= ws[k] & vs[k];
     }
 }
 
@@ -63,13 +54,8 @@ pub fn subtract(ws: &mut [u64], vs: &[u64])
 pub fn size(ws: &[u64]) -> usize
     ensures { result ≡ length (members ws.now) % 2 ^ 64 }
 {
-    let mut n: usize = 0;
-    let mut k: usize = 0;
-    while k < ws.len() {
-        n = std::num::wrapping_add_usize(n, u64::count_ones(ws[k]) as usize);
-        k += 1;
-    }
-    n
+    ws.iter()
+        .fold(0, |n: usize, w| n.wrapping_add(w.count_ones() as usize))
 }
 
 // How many members lie below i: the place of i among the members, counted from 0.
@@ -78,7 +64,7 @@ pub fn rank(ws: &[u64], i: usize) -> usize
 {
     let k = i / 64;
     if k < ws.len() {
-        size(&ws[..k]) + (u64::count_ones(ws[k] & (single(i) - 1)) as usize)
+        size(&ws[..k]) + (ws[k] & (single(i) - 1)).count_ones() as usize
     } else {
         size(ws)
     }
@@ -95,15 +81,15 @@ fn end(ws: &[u64], n: usize) -> usize
 pub fn list(ws: &[u64], n: usize, out: &mut [usize]) -> usize
     ensures { Listed (members_below ws.now n) out.old out.new result }
 {
-    let e = end(ws, n);
-    let mut r: usize = 0;
-    let mut i: usize = 0;
-    while i < e && r < out.len() {
+    let mut r = 0;
+    for i in 0..end(ws, n) {
+        if r == out.len() {
+            return r;
+        }
         if has(ws, i) {
             out[r] = i;
             r += 1;
         }
-        i += 1;
     }
     r
 }

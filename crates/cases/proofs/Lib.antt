@@ -1,4 +1,2 @@
--- Laws, then the functions.
-pub mod Laws
 -- small examples
 pub mod Computed

@@ -1,7 +1,6 @@
 -- Inside the stored cases, nothing to believe: the 64-bit FNV-1a checksum.
 -- Assumes nothing.
-use Rattle.std.specs.Prelude.{ℕ, ◌*◌, ◌%◌, List, bit_xor}
-use mathlib.Core.List.{foldl}
+use Rattle.std.specs.Prelude.{ℕ, ◌*◌, ◌%◌, List, fold, bit_xor}
 
 -- the checksum of nothing
 abbrev pub basis : ℕ
@@ -17,4 +16,4 @@ step h b = times_prime (bit_xor h b)
 
 -- bytes more
 abbrev pub of_bytes : ℕ → List ℕ → ℕ
-of_bytes h bs = foldl step h bs
+of_bytes h bs = fold step h bs

@@ -2,7 +2,7 @@
 // stands for a buffer too long to print. Every contract gives the outcome outright.
 #![tactic(auto)]
 
-ghost use Rattle.std.specs.Prelude.{◌≡◌, [], length, take, slice_index_or};
+ghost use Rattle.std.specs.Prelude.{◌≡◌, [], length, slice_index_or};
 ghost use Rattle.lines.specs.Parts.{split};
 ghost use Rattle.io.specs.Counts.{IsPrefixLen};
 ghost use Rattle.cases.specs.Number.{with_digit, spelled};
@@ -10,31 +10,24 @@ ghost use Rattle.cases.specs.Within.{within};
 ghost use Rattle.cases.specs.Checksum.{basis, times_prime, step, of_bytes};
 
 // Field k of a line, the fields parted by tabs and numbered from 0; empty, where there is none.
+#[tactic(auto, unfolding(grammar::specs::Line::field))]
 pub fn field(line: &[u8], k: usize) -> &[u8]
     ensures { result.now ≡ slice_index_or (split 9 line.now) k [] }
 {
-    let f = grammar::field_at(line, 0, line.len(), k);
-    let start = f.from;
-    let end = f.to;
-    &line[start..end]
+    grammar::field_at(line, k)
 }
 
 fn with_digit(n: usize, d: u8) -> usize
     ensures { result ≡ with_digit n d }
 {
-    std::num::wrapping_add_usize(n % 1844674407370955162 * 10, (d % 16) as usize)
+    (n % 1844674407370955162 * 10).wrapping_add(usize::from(d % 16))
 }
 
+// The number that the digits spell in base ten.
 fn number_of(digits: &[u8]) -> usize
     ensures { result ≡ spelled digits.now }
 {
-    let mut n: usize = 0;
-    let mut i: usize = 0;
-    while i < digits.len() {
-        n = with_digit(n, digits[i]);
-        i += 1;
-    }
-    n
+    digits.iter().fold(0, |n, d| with_digit(n, *d))
 }
 
 // The number that field k spells in base ten; 0, where there is none.
@@ -75,22 +68,9 @@ fn with_byte(h: u64, b: u8) -> u64
     times_prime(h ^ b as u64)
 }
 
-fn with_bytes(h: u64, bytes: &[u8]) -> u64
+// With more bytes.
+pub fn checksum_bytes(h: u64, bytes: &[u8]) -> u64
     ensures { result ≡ of_bytes h bytes.now }
 {
-    let mut g = h;
-    let mut i: usize = 0;
-    while i < bytes.len() {
-        g = with_byte(g, bytes[i]);
-        i += 1;
-    }
-    g
-}
-
-// With the first n bytes.
-pub fn checksum_bytes(h: u64, bytes: &[u8], n: usize) -> u64
-    ensures { result ≡ of_bytes h (take (within n (length bytes.now)) bytes.now) }
-{
-    let m = bytes_within(n, bytes);
-    with_bytes(h, &bytes[..m])
+    bytes.iter().fold(h, |g, b| with_byte(g, *b))
 }

@@ -1,7 +1,6 @@
 -- Laws by topic, then the functions.
 pub mod Numbers
-pub mod Letters
-pub mod Texts
 pub mod Values
+pub mod Letters
 pub mod Reading
 pub mod Whole

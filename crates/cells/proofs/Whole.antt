@@ -1,24 +1,19 @@
--- The whole answer: from its first line that is no comment to the number that comes back.
+-- The whole answer: from its first line that is no comment to what comes back.
 -- The definitions of crate `solver` go by `line_of`; here they go by the kind of line and the word, as the code does.
 use mathlib.Core.Path.{◌≡◌, refl, sym, ap, ◌∙◌}
 use mathlib.Core.Bool.{Bool, true, false, ◌&&◌, cond}
 use mathlib.Core.List.{List, [], ◌∷◌}
 use mathlib.Core.Logic.{⊎_elim}
-use mathlib.Core.Option.{Option, none, some}
-use Prim.Native.Nat.{ℕ, ◌+◌, ◌-◌, ◌≤◌, ◌<◌}
+use mathlib.Core.Option.{Option as Parsed, none, some}
+use Prim.Native.Nat.{ℕ}
 use native.Mathlib.Omega.{arith}
-use lib.ListN.{length, get_or, take}
-use lib.Dec.{eqb, leb, ltb}
-use lib.Seq.{slice}
-use borrow.Author.Tests.{le-leb, lt-leb}
+use lib.ListN.{length}
+use lib.Dec.{eqb, leb}
+use Rattle.std.specs.Prelude.{Option, Some, None}
 use Rattle.lists.specs.List.{all, drop_while}
 use Rattle.lists.proofs.Bool.{bool_cases, clash}
-use Rattle.lists.proofs.Order.{le_refl, ne_lt}
 use Rattle.lines.specs.Bytes.{LF, same_bytes}
 use Rattle.lines.specs.Parts.{split, put_byte, ended}
-use Rattle.lines.specs.Cut.{Cut}
-use Rattle.lines.proofs.Slice.{slice_whole}
-use Rattle.lines.proofs.Cutting.{line_last, line_more}
 use Rattle.planning.specs.Clause.{Lit}
 use Rattle.solver.specs.Number.{number_of, numbers_of}
 use Rattle.solver.specs.Line.{Word as SaidWord, satisfiable, unsatisfiable, unknown, says, unformed, numbers_line, word_line, SATISFIABLE, UNSATISFIABLE, UNKNOWN}
@@ -27,56 +22,11 @@ use Rattle.solver.specs.Scan.{Reading, begin, and_on, read_part, read_line, read
 use Rattle.cells.specs.declared.kind.Kind.{Kind}
 use Rattle.cells.specs.declared.kind.Kind.TheVariants.{Comment, Word as WordKind, Values, Other as OtherKind}
 use Rattle.cells.specs.declared.kind.Word.{Word}
-use Rattle.cells.specs.declared.kind.Word.TheVariants.{Satisfiable, Other, None}
-use Rattle.cells.specs.declared.State.{State}
-use Rattle.cells.specs.Kind.{kind, behind_space, line_from, comment_kind, is_comment, word_in, word_by, word_of, Passed}
-use Rattle.cells.proofs.Letters.{line_kind}
-use Rattle.cells.specs.State.{state_from, Stands}
+use Rattle.cells.specs.declared.kind.Word.TheVariants.{Satisfiable, Other}
+use Rattle.cells.specs.Kind.{kind, behind_space, line_from, comment_kind, is_comment, word_in, word_by, word_of}
 use Rattle.cells.specs.Read.{Told, only_comments}
+use Rattle.cells.proofs.Letters.{line_kind}
 use Rattle.cells.proofs.Reading.{line_by, line_is}
-
--- The length and the last byte ---------------------------------------------------------------------------------------------------
-abbrev pub fitting : List ℕ → Bool
-fitting s = leb (length s) 65536 && all_ended s
-
-pub fits_long : (s : List ℕ) → 65536 < length s → false ≡ fitting s
-fits_long s h = rw (lt-leb (length s) 65536 h)
-
-pub fits_empty : (s : List ℕ) → length s ≡ 0 → false ≡ fitting s
-fits_empty [] e = refl
-fits_empty (b ∷ s) e = absurd (omega arith)
-
-pub fits_byte : (s : List ℕ) → length s ≤ 65536 → eqb (get_or s (length s - 1) 0) 10 ≡ fitting s
-fits_byte s h = rw (le-leb (length s) 65536 h)
-
--- At the end, after SATISFIABLE ----------------------------------------------------------------------------------------------------
-pub told_no : {o : ℕ × List ℕ} {n : ℕ} {cs : List ℕ} (r : ℕ) → r ≡ o.0 → (r ≡ 0 → ⊥) → Told o n cs r
-told_no r e m = record { question = e; values = λ z. absurd (m z) }
-
-module _ (n : ℕ) (st : State) (cs : List ℕ) where
-  abbrev pub decided : ℕ × List ℕ
-  decided = decide satisfiable (state_from st (take n cs))
-
-  pub judge_unformed : st.formed ≡ false → Told decided n cs 12
-  judge_unformed f = told_no 12 (rw f) (λ z. absurd (omega (arith, z)))
-
-  module _ (f : st.formed ≡ true) where
-    pub judge_open : st.ended ≡ false → Told decided n cs 12
-    judge_open e = told_no 12 (rw (f, e)) (λ z. absurd (omega (arith, z)))
-
-    module _ (e : st.ended ≡ true) where
-      pub judge_off : st.off ≡ true → Told decided n cs 14
-      judge_off o = told_no 14 (rw (f, e, o)) (λ z. absurd (omega (arith, z)))
-
-      module _ (o : st.off ≡ false) {t : Bool} (q : t ≡ all (λ c. ltb c 2) (take n cs)) where
-        pub judge_missing : t ≡ false → Told decided n cs 14
-        judge_missing b = told_no 14 (rw (f, e, o, ← q, b)) (λ z. absurd (omega (arith, z)))
-
-        pub judge_taken : t ≡ true → Told decided n cs 0
-        judge_taken b = record { question = rw (f, e, o, ← q, b); values = λ z. rw (f, e, o, ← q, b) }
-
-pub judged : {n : ℕ} {st : State} {cs : List ℕ} {o : Option Reading} {r : ℕ} → Stands n st cs o → Told (decide satisfiable (state_from st (take n cs))) n cs r → Told (decide satisfiable o) n cs r
-judged {n} {st} {cs} {o} {r} q t = rw q.is at t
 
 -- After the other two words --------------------------------------------------------------------------------------------------------
 all_dropped : (ls : List (List ℕ)) → drop_while is_comment ls ≡ [] → all is_comment ls ≡ true
@@ -95,12 +45,12 @@ not_dropped (l ∷ ls) m ms e = go (is_comment l) e (not_dropped ls m ms)
     go true e ih = ih e
     go false e ih = refl
 
-module _ {s : List ℕ} {a r e : ℕ} (p : Passed s a r) (k : Cut LF s r (length s) e) where
-  pub others_only : e ≡ length s → 13 ≡ only_comments (ended LF (slice a (length s) s))
-  others_only q = rw (all_dropped (ended LF (slice a (length s) s)) (sym p.rest ∙ line_last k (le_refl (length s)) q))
+module _ (ls : List (List ℕ)) {ms : List (List ℕ)} (p : ms ≡ drop_while is_comment ls) where
+  pub others_only : ms ≡ [] → 13 ≡ only_comments ls
+  others_only q = rw (all_dropped ls (sym p ∙ q))
 
-  pub others_more : (e ≡ length s → ⊥) → 12 ≡ only_comments (ended LF (slice a (length s) s))
-  others_more m = rw (not_dropped (ended LF (slice a (length s) s)) _ _ (sym p.rest ∙ line_more k (le_refl (length s)) (ne_lt k.high m)))
+  pub others_more : {m : List ℕ} {more : List (List ℕ)} → ms ≡ m ∷ more → 12 ≡ only_comments ls
+  others_more {m} {more} q = rw (not_dropped ls m more (sym p ∙ q))
 
 -- with another word than SATISFIABLE no number is taken, so that a line is a comment or none
 some_part : (c : ℕ) (bs : List ℕ) → (p : List ℕ) × (ps : List (List ℕ)) × (split c bs ≡ p ∷ ps)
@@ -112,7 +62,7 @@ some_part c (b ∷ bs) = go (eqb b c) (some_part c bs)
     go true x = ([], split c bs, refl)
     go false x = (b ∷ x.0, x.1, rw x.2)
 
-module _ (w : SaidWord) (no : (r : Reading) (o : Option Lit) → read_part w r o ≡ none) where
+module _ (w : SaidWord) (no : (r : Reading) (o : Parsed Lit) → read_part w r o ≡ none) where
   other_line : (r : Reading) (l : List ℕ) → read_line w r l ≡ cond (is_comment l) (some r) none
   other_line r l = line_is w r l ∙ go (kind l) (behind_space l)
     where
@@ -138,7 +88,7 @@ unsatisfiable_is r ls = rw (other_lines unsatisfiable no r ls) (go (all is_comme
     go true = refl
     go false = refl
 
-    no : (r : Reading) (o : Option Lit) → read_part unsatisfiable r o ≡ none
+    no : (r : Reading) (o : Parsed Lit) → read_part unsatisfiable r o ≡ none
     no r none = refl
     no r (some l) = refl
 
@@ -149,15 +99,15 @@ unknown_is r ls = rw (other_lines unknown no r ls) (go (all is_comment ls))
     go true = refl
     go false = refl
 
-    no : (r : Reading) (o : Option Lit) → read_part unknown r o ≡ none
+    no : (r : Reading) (o : Parsed Lit) → read_part unknown r o ≡ none
     no r none = refl
     no r (some l) = refl
 
 -- From the first line on -----------------------------------------------------------------------------------------------------------
 -- what the word and the lines behind it say
-abbrev pub from_word : ℕ → Word → List (List ℕ) → ℕ × List ℕ
-from_word n Satisfiable ls = decide satisfiable (read_lines satisfiable (begin n) ls)
-from_word n Other ls = (only_comments ls, [])
+abbrev pub from_word : ℕ → Option Word → List (List ℕ) → ℕ × List ℕ
+from_word n (Some Satisfiable) ls = decide satisfiable (read_lines satisfiable (begin n) ls)
+from_word n (Some Other) ls = (only_comments ls, [])
 from_word n None ls = (12, [])
 
 module _ (n : ℕ) (l : List ℕ) (ls : List (List ℕ)) where
@@ -174,7 +124,7 @@ module _ (n : ℕ) (l : List ℕ) (ls : List (List ℕ)) where
   from_word_lem more = go (same_bytes more SATISFIABLE) (same_bytes more UNSATISFIABLE) (same_bytes more UNKNOWN)
     where
       go : (a b c : Bool)
-          → from_line n (cond a (says satisfiable) (cond b (says unsatisfiable) (cond c (says unknown) unformed))) (read_from n ls) ls ≡ from_word n (cond a Satisfiable (cond b Other (cond c Other None))) ls
+          → from_line n (cond a (says satisfiable) (cond b (says unsatisfiable) (cond c (says unknown) unformed))) (read_from n ls) ls ≡ from_word n (cond a (Some Satisfiable) (cond b (Some Other) (cond c (Some Other) None))) ls
       go true b c = refl
       go false true c = unsatisfiable_is (begin n) ls
       go false false true = unknown_is (begin n) ls
@@ -183,7 +133,7 @@ module _ (n : ℕ) (l : List ℕ) (ls : List (List ℕ)) where
   from_other : is_comment l ≡ false → read_from n (l ∷ ls) ≡ from_word n (word_of l) ls
   from_other e = rw (line_kind l) (go (kind l) (behind_space l) e)
     where
-      numbers : (o : Option (List Lit)) → from_line n (numbers_line o) (read_from n ls) ls ≡ (12, [])
+      numbers : (o : Parsed (List Lit)) → from_line n (numbers_line o) (read_from n ls) ls ≡ (12, [])
       numbers none = refl
       numbers (some ks) = refl
 
@@ -202,41 +152,42 @@ first_kept [] m ms e = absurd (omega (arith, ap length e))
 first_kept (l ∷ ls) m ms e = ⊎_elim (λ y. first_kept ls m ms (rw y at e)) (λ y. let q : l ∷ ls ≡ m ∷ ms = rw y at e in let h : l ≡ m = cc in rw h at y) (bool_cases (is_comment l))
 
 -- The answer -----------------------------------------------------------------------------------------------------------------------
-pub read_unfit : (s : List ℕ) (n : ℕ) {cs : List ℕ} {t : Bool} → t ≡ fitting s → t ≡ false → Told (heard n s) n cs 12
+pub told_no : {o : ℕ × List ℕ} {n : ℕ} {cs : List ℕ} (r : ℕ) → r ≡ o.0 → (r ≡ 0 → ⊥) → Told o n cs r
+told_no r e m = record { question = e; values = λ z. absurd (m z) }
+
+pub read_unfit : (s : List ℕ) (n : ℕ) {cs : List ℕ} {t : Bool} → t ≡ (leb (length s) 65536 && all_ended s) → t ≡ false → Told (heard n s) n cs 12
 unfolding heard
 read_unfit s n e f = told_no 12 (rw (← e, f)) (λ z. absurd (omega (arith, z)))
 
-module _ (s : List ℕ) (n : ℕ) {t : Bool} (f : t ≡ fitting s) (y : t ≡ true) {a b : ℕ} (p : Passed s 0 a) (k : Cut LF s a (length s) b) where
-  from_first : heard n s ≡ read_from n (ended LF (slice a (length s) s))
+module _ (s : List ℕ) (n : ℕ) {t : Bool} (f : t ≡ (leb (length s) 65536 && all_ended s)) (y : t ≡ true) (rest : List ℕ) (p : ended LF rest ≡ drop_while is_comment (ended LF s)) where
+  from_first : heard n s ≡ read_from n (ended LF rest)
   unfolding heard
   from_first =
-      let q : read_from n (ended LF s) ≡ read_from n (ended LF (slice a (length s) s)) =
-      passed n (ended LF s) ∙ ap (λ (x : List ℕ). read_from n (drop_while is_comment (ended LF x))) (sym (slice_whole s)) ∙ ap (read_from n) (sym p.rest) in
+      let q : read_from n (ended LF s) ≡ read_from n (ended LF rest) = passed n (ended LF s) ∙ ap (read_from n) (sym p) in
       rw (← f, y) q
 
-  pub read_nothing : {cs : List ℕ} → b ≡ length s → Told (heard n s) n cs 12
+  pub read_nothing : {cs : List ℕ} → ended LF rest ≡ [] → Told (heard n s) n cs 12
   read_nothing e =
-      let q : heard n s ≡ (12, []) = from_first ∙ ap (read_from n) (line_last k (le_refl (length s)) e) in
+      let q : heard n s ≡ (12, []) = from_first ∙ ap (read_from n) e in
       told_no 12 (rw q) (λ z. absurd (omega (arith, z)))
 
-  module _ (m : b ≡ length s → ⊥) where
-    from_line_lem : heard n s ≡ from_word n (word_of (slice a b s)) (ended LF (slice (b + 1) (length s) s))
+  module _ (line behind : List ℕ) (h : ended LF rest ≡ line ∷ ended LF behind) where
+    from_line_lem : heard n s ≡ from_word n (word_of line) (ended LF behind)
     from_line_lem =
-        let e = line_more k (le_refl (length s)) (ne_lt k.high m) in
-        let c = first_kept (ended LF (slice 0 (length s) s)) (slice a b s) (ended LF (slice (b + 1) (length s) s)) (sym p.rest ∙ e) in
-        from_first ∙ ap (read_from n) e ∙ from_other n (slice a b s) (ended LF (slice (b + 1) (length s) s)) c
+        let c = first_kept (ended LF s) line (ended LF behind) (sym p ∙ h) in
+        from_first ∙ ap (read_from n) h ∙ from_other n line (ended LF behind) c
 
-    pub read_satisfiable : {cs : List ℕ} {r : ℕ} → Satisfiable ≡ word_of (slice a b s) → Told (decide satisfiable (read_lines satisfiable (begin n) (ended LF (slice (b + 1) (length s) s)))) n cs r → Told (heard n s) n cs r
-    read_satisfiable e t = let q = from_line_lem in rw (q, ← e) t
+    pub read_satisfiable : {cs : List ℕ} {r : ℕ} → word_of line ≡ Some Satisfiable → Told (decide satisfiable (read_lines satisfiable (begin n) (ended LF behind))) n cs r → Told (heard n s) n cs r
+    read_satisfiable e t = let q = from_line_lem in rw (q, e) t
 
-    pub read_other : {cs : List ℕ} {r : ℕ} → Other ≡ word_of (slice a b s) → r ≡ only_comments (ended LF (slice (b + 1) (length s) s)) → Told (heard n s) n cs r
+    pub read_other : {cs : List ℕ} {r : ℕ} → word_of line ≡ Some Other → r ≡ only_comments (ended LF behind) → Told (heard n s) n cs r
     read_other {cs} {r} e t =
         let q = from_line_lem in
-        told_no r (rw (q, ← e) t) (λ z. not_zero (all is_comment (ended LF (slice (b + 1) (length s) s))) (sym t ∙ z))
+        told_no r (rw (q, e) t) (λ z. not_zero (all is_comment (ended LF behind)) (sym t ∙ z))
       where
         not_zero : (x : Bool) → ◌≡◌ {A = ℕ} (cond x 13 12) 0 → ⊥
         not_zero true z = omega (arith, z)
         not_zero false z = omega (arith, z)
 
-    pub read_wordless : {cs : List ℕ} → None ≡ word_of (slice a b s) → Told (heard n s) n cs 12
-    read_wordless e = let q = from_line_lem in told_no 12 (rw (q, ← e)) (λ z. absurd (omega (arith, z)))
+    pub read_wordless : {cs : List ℕ} → word_of line ≡ None → Told (heard n s) n cs 12
+    read_wordless e = let q = from_line_lem in told_no 12 (rw (q, e)) (λ z. absurd (omega (arith, z)))

@@ -1,17 +1,15 @@
 -- Inside the reader of an answer, nothing to believe: the lines of an answer file by their kind. `line_of` of crate `solver` is the meaning.
 -- 99, 115 and 118 are c, s and v; 32 is a space. Assumes nothing.
-use Rattle.std.specs.Prelude.{◌≡◌, Bool, true, false, cond, List, [], ◌∷◌, ◌⊎◌, ℕ, ◌≤◌, length, eqb}
-use Rattle.std.proofs.Math.Seq.{slice}
-use Rattle.lists.specs.List.{drop_while}
-use Rattle.lines.specs.Bytes.{LF, same_bytes}
-use Rattle.lines.specs.Parts.{split, ended}
+use Rattle.std.specs.Prelude.{◌≡◌, Bool, true, false, cond, List, [], ◌∷◌, ◌⊎◌, ℕ, eqb, Option, Some, None}
+use Rattle.lines.specs.Bytes.{same_bytes}
+use Rattle.lines.specs.Parts.{split}
 use Rattle.solver.specs.Number.{numbers_of}
 use Rattle.solver.specs.Line.{Word as SolverWord, satisfiable, unsatisfiable, unknown, Line, comment, says, unformed, word_line, numbers_line, line_of}
 use Rattle.solver.specs.Line.{SATISFIABLE, UNSATISFIABLE, UNKNOWN}
 use Rattle.cells.specs.declared.kind.Kind.{Kind}
 use Rattle.cells.specs.declared.kind.Kind.TheVariants.{Comment, Word as WordKind, Values, Other as OtherKind}
 use Rattle.cells.specs.declared.kind.Word.{Word}
-use Rattle.cells.specs.declared.kind.Word.TheVariants.{Satisfiable, Other, None}
+use Rattle.cells.specs.declared.kind.Word.TheVariants.{Satisfiable, Other}
 
 -- by the letter, where a space stands behind it
 abbrev pub lettered : ℕ → Kind
@@ -49,35 +47,30 @@ comment_kind OtherKind = false
 abbrev pub is_comment : List ℕ → Bool
 is_comment l = comment_kind (kind l)
 
--- r is the place of the first line from a on that is no comment. Left free: r, where there is none and no LF ends the last
-pub record Passed (s : List ℕ) (a r : ℕ) : Type 0 where
-  pub high : r ≤ length s
-  pub rest : ended LF (slice r (length s) s) ≡ drop_while is_comment (ended LF (slice a (length s) s))
-
 -- the meaning of each word: what a line says
-abbrev pub Says : Word → Line → Type 0
-Says Satisfiable l = l ≡ says satisfiable
-Says Other l = (l ≡ says unsatisfiable) ⊎ (l ≡ says unknown)
+abbrev pub Says : Option Word → Line → Type 0
+Says (Some Satisfiable) l = l ≡ says satisfiable
+Says (Some Other) l = (l ≡ says unsatisfiable) ⊎ (l ≡ says unknown)
 Says None l = (w : SolverWord) → l ≡ says w → ⊥
 
 -- the word in these bytes
-abbrev pub word_in : List ℕ → Word
-word_in bs = cond (same_bytes bs SATISFIABLE) Satisfiable (cond (same_bytes bs UNSATISFIABLE) Other (cond (same_bytes bs UNKNOWN) Other None))
+abbrev pub word_in : List ℕ → Option Word
+word_in bs = cond (same_bytes bs SATISFIABLE) (Some Satisfiable) (cond (same_bytes bs UNSATISFIABLE) (Some Other) (cond (same_bytes bs UNKNOWN) (Some Other) None))
 
-abbrev pub word_by : Kind → List ℕ → Word
+abbrev pub word_by : Kind → List ℕ → Option Word
 word_by Comment bs = None
 word_by WordKind bs = word_in bs
 word_by Values bs = None
 word_by OtherKind bs = None
 
 -- the word of an `s` line
-abbrev pub word_of : List ℕ → Word
+abbrev pub word_of : List ℕ → Option Word
 word_of l = word_by (kind l) (behind_space l)
 
-pub record IsWordIn (bs : List ℕ) (r : Word) : Type 0 where
+pub record IsWordIn (bs : List ℕ) (r : Option Word) : Type 0 where
   pub is : r ≡ word_in bs
   pub means : Says r (word_line bs)
 
-pub record IsWord (l : List ℕ) (r : Word) : Type 0 where
+pub record IsWord (l : List ℕ) (r : Option Word) : Type 0 where
   pub is : r ≡ word_of l
   pub means : Says r (line_of l)

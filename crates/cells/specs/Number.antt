@@ -1,19 +1,19 @@
 -- Inside the reader of an answer, nothing to believe: a number as the code reads it. `number_of` of crate `solver` is the meaning.
 -- Assumes nothing.
-use Rattle.std.specs.Prelude.{Bool, true, false, ◌&&◌, cond, List, ℕ, length, leb}
+use Rattle.std.specs.Prelude.{Bool, true, false, ◌&&◌, cond, List, ℕ, length, leb, Some, None}
+use Rattle.std.specs.Prelude.{Option as CodeOption}
 use Rattle.std.proofs.Math.Option.{Option, none, some}
 use Rattle.lists.specs.List.{all}
 use Rattle.planning.specs.Clause.{Lit, literal}
 use Rattle.planning.specs.Promises.{read_decimal}
 use Rattle.lines.specs.Bytes.{digit}
 use Rattle.solver.specs.Number.{unpadded, positive, negative}
-use Rattle.cells.specs.declared.number.Number.{Number}
-use Rattle.cells.specs.declared.number.Number.TheVariants.{None, Literal}
+use Rattle.cells.specs.declared.number.Literal.{Literal}
 
 -- the number that comes back
-abbrev pub literal_from : Number → Option Lit
+abbrev pub literal_from : CodeOption Literal → Option Lit
 literal_from None = none
-literal_from (Literal v sign) = some (literal sign v)
+literal_from (Some n) = some (literal n.sign n.variable)
 
 -- "a minus allowed except on 0"
 abbrev pub with_sign : Bool → Option ℕ → Option Lit

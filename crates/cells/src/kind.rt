@@ -1,14 +1,14 @@
-// The lines of an answer file by their kind, the comments, and the word of an `s` line. A line is two places of the file, as in crate
-// `lines`.
-ghost use Rattle.std.specs.Prelude.{◌≡◌, ◌≤◌, length};
-ghost use Rattle.std.proofs.Math.Seq.{slice};
-ghost use Rattle.lines.specs.Bytes.{same_bytes};
-ghost use Rattle.cells.specs.Kind.{IsKind, is_comment, IsWordIn, IsWord, Passed};
+// The lines of an answer file by their kind, the comments, and the word of an `s` line.
+ghost use Rattle.std.specs.Prelude.{◌≡◌, List, ℕ, ◌++◌};
+ghost use Rattle.lists.specs.List.{drop_while};
+ghost use Rattle.lines.specs.Bytes.{LF};
+ghost use Rattle.lines.specs.Parts.{ended};
+ghost use Rattle.cells.specs.Kind.{IsKind, is_comment, IsWordIn, IsWord};
 
-use lines::cut;
+use lines::next_line;
 
 // `c` alone; or the letter, a space and more.
-#[derive(Clone, Copy)]
+#[derive(Clone, Copy, Debug, PartialEq, Eq)]
 pub enum Kind {
     Comment,
     Word,
@@ -16,119 +16,64 @@ pub enum Kind {
     Other,
 }
 
-pub fn kind_of(s: &[u8], a: usize, b: usize) -> Kind
-    requires { (a ≤ b) × (b ≤ length s.now) }
-    ensures { IsKind (slice a b s.now) result }
+pub fn kind_of(line: &[u8]) -> Kind
+    ensures { IsKind line.now result }
 {
-    if a == b {
-        return Kind::Other;
-    }
-    if b - a == 1 {
-        if s[a] == b'c' {
-            return Kind::Comment;
-        }
-        return Kind::Other;
-    }
-    if s[a + 1] != b' ' {
-        return Kind::Other;
-    }
-    match s[a] {
-        b'c' => Kind::Comment,
-        b's' => Kind::Word,
-        b'v' => Kind::Values,
+    match line {
+        [b'c'] | [b'c', b' ', ..] => Kind::Comment,
+        [b's', b' ', ..] => Kind::Word,
+        [b'v', b' ', ..] => Kind::Values,
         _ => Kind::Other,
     }
 }
 
-fn is_comment(s: &[u8], a: usize, b: usize) -> bool
-    requires { (a ≤ b) × (b ≤ length s.now) }
-    ensures { result ≡ is_comment (slice a b s.now) }
+fn is_comment(line: &[u8]) -> bool
+    ensures { result ≡ is_comment line.now }
 {
-    match kind_of(s, a, b) {
-        Kind::Comment => true,
-        Kind::Word => false,
-        Kind::Values => false,
-        Kind::Other => false,
-    }
+    matches!(kind_of(line), Kind::Comment)
 }
 
-// The place of the first line from a on that is no comment, or of the end.
-pub fn pass_comments(s: &[u8], a: usize) -> usize
-    requires { a ≤ length s.now }
-    ensures { Passed s.now a result }
+// The text from its first line on that is no comment.
+pub fn pass_comments(text: &[u8]) -> &[u8]
+    ensures lines { ended LF result.now ≡ drop_while is_comment (ended LF text.now) }
+    ensures tail { (front : List ℕ) × (text.now ≡ front ++ result.now) }
 {
-    let n = s.len();
-    let mut i = a;
-    while i < n {
-        let b = cut(s, i, n, b'\n');
-        if b == n {
-            return i;
+    let mut rest = text;
+    while let Some((line, behind)) = next_line(rest) {
+        if !is_comment(line) {
+            return rest;
         }
-        if !is_comment(s, i, b) {
-            return i;
-        }
-        i = b + 1;
+        rest = behind;
     }
-    i
+    rest
 }
 
-// Are these the bytes from a up to b?
-fn is_text(s: &[u8], a: usize, b: usize, t: &[u8]) -> bool
-    requires { (a ≤ b) × (b ≤ length s.now) }
-    ensures { result ≡ same_bytes (slice a b s.now) t.now }
-{
-    if b - a != t.len() {
-        return false;
-    }
-    let mut i = a;
-    let mut j: usize = 0;
-    while i < b {
-        if s[i] != t[j] {
-            return false;
-        }
-        i += 1;
-        j += 1;
-    }
-    true
-}
-
-// SATISFIABLE, one of the other two words, or none of them.
-#[derive(Clone, Copy)]
+// SATISFIABLE, or one of the other two words.
+#[derive(Clone, Copy, Debug, PartialEq, Eq)]
 pub enum Word {
     Satisfiable,
     Other,
-    None,
 }
 
-// The word that stands from a up to b.
-fn read_word(s: &[u8], a: usize, b: usize) -> Word
-    requires { (a ≤ b) × (b ≤ length s.now) }
-    ensures { IsWordIn (slice a b s.now) result }
+// The word in these bytes.
+fn read_word(word: &[u8]) -> Option<Word>
+    ensures { IsWordIn word.now result }
 {
-    if is_text(s, a, b, b"SATISFIABLE") {
-        return Word::Satisfiable;
+    if word == b"SATISFIABLE".as_slice() {
+        return Some(Word::Satisfiable);
     }
-    if is_text(s, a, b, b"UNSATISFIABLE") {
-        return Word::Other;
+    if word == b"UNSATISFIABLE".as_slice() || word == b"UNKNOWN".as_slice() {
+        return Some(Word::Other);
     }
-    if is_text(s, a, b, b"UNKNOWN") {
-        return Word::Other;
-    }
-    Word::None
+    None
 }
 
-// The word of the `s` line from a up to b; none where it is no `s` line.
-pub fn word_of(s: &[u8], a: usize, b: usize) -> Word
-    requires { (a ≤ b) × (b ≤ length s.now) }
-    ensures { IsWord (slice a b s.now) result }
+// The word of the line; None where it is no `s` line, or none of the words.
+pub fn word_of(line: &[u8]) -> Option<Word>
+    ensures { IsWord line.now result }
 {
-    match kind_of(s, a, b) {
-        Kind::Comment => Word::None,
-        Kind::Word => {
-            let i = a + 2;
-            read_word(s, i, b)
-        }
-        Kind::Values => Word::None,
-        Kind::Other => Word::None,
+    match kind_of(line) {
+        Kind::Word => read_word(&line[2..]),
+        Kind::Comment | Kind::Values | Kind::Other => None,
     }
 }

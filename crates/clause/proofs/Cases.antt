@@ -1,7 +1,7 @@
 -- Which clause stands at a place, rule by rule and letter by letter, and what is there.
 -- By cases on rule and letter.
-use mathlib.Core.Path.{◌≡◌, refl, sym, ap, ◌∙◌}
-use mathlib.Core.Bool.{Bool, true, false}
+use mathlib.Core.Path.{◌≡◌, refl, sym, ap, ◌∙◌, subst}
+use mathlib.Core.Bool.{Bool, true, false, not}
 use mathlib.Core.List.{List, [], ◌∷◌}
 use Prim.Native.Nat.{ℕ, zero, suc, ◌+◌, ◌<◌}
 use native.Mathlib.Numerals.{add-one}
@@ -13,14 +13,19 @@ use Rattle.lists.proofs.Bool.{eqb_other}
 use Rattle.planning.specs.Table.{job, Table, body_of}
 use Rattle.planning.specs.Place.{Place, slot, inner, root_place, nodes}
 use Rattle.planning.specs.Variable.{fact_var}
-use Rattle.planning.specs.Clause.{pos, neg, var_of, literal}
+use Rattle.planning.specs.Clause.{pos, neg, Clause, all_pos, var_of, literal}
+use Rattle.lists.specs.List.{filter}
+use Rattle.clause.specs.Parts.{moves, moved}
 use Rattle.places.specs.Nest.{at}
 use Rattle.places.specs.Flat.{tasks_at}
 use Rattle.places.specs.ClausePlace.{root, both, body_task, inherited, start, child_at, method_at, method_var, slot_at, named_at, effect_facts, effect_place, group_at, groups_in, row_len, place_at, literals}
 use Rattle.places.proofs.Valid.{Inside, inside}
 use Rattle.index.specs.Index.{source}
 use Rattle.index.proofs.Known.{nodes_count}
-use Rattle.shape.specs.Shape.{node, Indexed, InNode, InGroup}
+use Rattle.shape.specs.Shape.{node, Indexed, InNode, HasLetter}
+use Rattle.shape.specs.Views.{source_of}
+use Rattle.shape.specs.declared.encoded.Encoded.{Encoded}
+use Rattle.shape.specs.declared.node.Node.{Node}
 use Rattle.shape.proofs.Groups.{sizes_of}
 
 -- there is a root
@@ -33,12 +38,27 @@ module _ {T : Table} {ix : List ℕ} (i : Indexed T ix) where
   root_there = record { indexed = i; there = omega (arith, nodes_count T, some_node (root_place T)) }
 
 -- what the place names is there, and loops are short
-module _ {T : Table} {ix : List ℕ} {r n g : ℕ} (k : InGroup T ix r n g) (x y i : ℕ) (h : i < row_len (source T) r n g x y) where
+module _ {T : Table} {ix : List ℕ} (d : Indexed T ix) {r n g : ℕ} (k : HasLetter (source T) r n g) (x y i : ℕ) (h : i < row_len (source T) r n g x y) where
   pub there : Inside (source T) r n g x y i
   there = inside (source T) r n g x y i h
 
   pub small : (x < 128) × (i < 128)
-  small = let s = sizes_of k.indexed r n g in (omega (arith, there.in_x, s.xs), omega (arith, there.in_row, s.len x y))
+  small = let s = sizes_of d r n g in (omega (arith, there.in_x, s.xs), omega (arith, there.in_row, s.len x y))
+
+-- Rule 2, at the struct of node k ------------------------------------------------------------------------------------------------
+module _ {e : Encoded} {k : ℕ} (n : Node) (p : n.encoded ≡ e) (q : n.number ≡ k) (g : ℕ) where
+  pub letter_there : HasLetter (source_of e) 1 k g → HasLetter (source_of n.encoded) 1 n.number g
+  letter_there h = subst (λ (d : Encoded). HasLetter (source_of d) 1 n.number g) (sym p) (subst (λ (m : ℕ). HasLetter (source_of e) 1 m g) (sym q) h)
+
+  module _ (x y i : ℕ) where
+    pub row_there : i < row_len (source_of e) 1 k g x y → i < row_len (source_of n.encoded) 1 n.number g x y
+    row_there h = subst (λ (d : Encoded). i < row_len (source_of d) 1 n.number g x y) (sym p) (subst (λ (m : ℕ). i < row_len (source_of e) 1 m g x y) (sym q) h)
+
+    pub node_lits : literals (source_of n.encoded) (place_at (source_of n.encoded) (at 1 n.number g x y i))
+        ≡ literals (source_of e) (place_at (source_of e) (at 1 k g x y i))
+    node_lits =
+        ap (λ (d : Encoded). literals (source_of d) (place_at (source_of d) (at 1 n.number g x y i))) p
+        ∙ ap (λ (m : ℕ). literals (source_of e) (place_at (source_of e) (at 1 m g x y i))) q
 
 -- Rules 1 and 3 -----------------------------------------------------------------------------------------------------------------
 module _ (T : Table) (n x y i : ℕ) where
@@ -117,3 +137,17 @@ module _ (T : Table) (n x y i : ℕ) {v s f w : ℕ} (p : v ≡ (get_or (slot_at
       → neg v ∷ literal (eqb y 1) w ∷ [] ≡ literals (source T) (place_at (source T) (at 3 n 0 x y i))
   effect_after h u l = rw (l, add-one n, e, p, q) (after_at T n (get_or (slot_at (source T) n) x (0, 0)).0
       (get_or (effect_facts T (get_or (slot_at (source T) n) x (0, 0)).1 y) i 0) y h u)
+
+-- a fact before and after the slot, then the steps
+module _ (T : Table) (n f : ℕ) where
+  abbrev pub movers : Bool → Clause
+  movers up = all_pos (filter (λ (x : ℕ × ℕ). moves T up f x.1) (slot_at (source T) n))
+
+  same_frame : (up : Bool) → literal up (fact_var T (source T).facts n f) ∷ literal (not up) (fact_var T (source T).facts (suc n) f) ∷ movers up
+      ≡ literals (source T) (moved up n f)
+  same_frame true = refl
+  same_frame false = refl
+
+  pub frame_lits : {v w : ℕ} (up : Bool) → v ≡ fact_var T (source T).facts n f → w ≡ fact_var T (source T).facts (n + 1) f
+      → literal up v ∷ literal (not up) w ∷ movers up ≡ literals (source T) (moved up n f)
+  frame_lits up p q = rw (p, q, add-one n) (same_frame up)

@@ -4,7 +4,6 @@ use mathlib.Core.Path.{◌≡◌, refl, sym, ap, ◌∙◌}
 use mathlib.Core.Bool.{Bool, true, false}
 use mathlib.Core.List.{List, [], ◌∷◌, ◌++◌, append-nil}
 use Prim.Native.Nat.{ℕ, suc, ◌+◌, ◌-◌, ◌*◌, ◌/◌, ◌≤◌, ◌<◌}
-use native.Mathlib.Nat.{mul-le-mul_right}
 use native.Mathlib.Omega.{arith}
 use lib.ListN.{length, get_or, length-append}
 use lib.Seq.{get_or-append_seam}
@@ -13,12 +12,8 @@ use Rattle.lists.proofs.Bool.{and_off, and_on}
 use Rattle.lists.proofs.Place.{filter_split}
 use Rattle.bitset.specs.Set.{contains, members_below, members}
 use Rattle.bitset.proofs.Promises.{promises}
-use Rattle.planning.specs.Table.{Table, Step}
-use Rattle.planning.specs.Variable.{fact_var}
+use Rattle.planning.specs.Table.{Step}
 use Rattle.planning.specs.Clause.{drops}
-use Rattle.places.proofs.Records.{vars_records}
-use Rattle.index.specs.Index.{source, first_fact_in}
-use Rattle.shape.specs.Shape.{Indexed}
 
 -- is f one of the facts in a set's words?
 pub has_is : {r : Bool} {fs : List ℕ} (l : List ℕ) (f : ℕ) → members l ≡ fs → r ≡ contains l f → r ≡ has fs f
@@ -76,21 +71,3 @@ module _ {l : List ℕ} {i lo hi : ℕ} (u : Between l i lo hi) where
           omega (arith, u.low, u.high, ap length at_hi, ap (λ (t : Bool). length (before ++ cons_if t lo [])) y, length-append before (lo ∷ [])) in
           let here : filter (contains l) (from lo (64 - lo)) ≡ lo ∷ filter (contains l) (from (suc lo) (63 - lo)) = ap (filter (contains l)) rest ∙ rw y in
           sym (rw (all, here, long) (get_or-append_seam before lo (filter (contains l) (from (suc lo) (63 - lo))) 0))
-
--- Variables ----------------------------------------------------------------------------------------------------------------------
-module _ {T : Table} {ix : List ℕ} (i : Indexed T ix) where
-  first_most : (source T).facts ≤ 8192
-  first_most = omega (arith, vars_records T, i.accepted.few_variables)
-
-  pub facts_most : T.facts ≤ 64
-  facts_most = i.accepted.limits.facts
-
-  -- fact f at boundary b, from the first fact variable a and the number k of facts
-  pub fact_room : {a k : ℕ} (b f : ℕ) → a ≡ first_fact_in ix → k ≡ T.facts → b ≤ 1024 → f < 64 → (b * k ≤ 65536) × (a + b * k + f < 100000)
-  fact_room {a} {k} b f e g h l =
-      let m : b * k ≤ 65536 = omega (arith, mul-le-mul_right {m = b} {n = 1024} k h, facts_most) in
-      (m, omega (arith, m, e ∙ ap first_fact_in i.index, first_most))
-
-  pub fact_is : {a k : ℕ} (b f : ℕ) → a ≡ first_fact_in ix → k ≡ T.facts → b ≤ 1024 → f < 64
-      → (a + b * k + f ≡ fact_var T (source T).facts b f) × (a + b * k + f < 100000)
-  fact_is {a} {k} b f e g h l = (rw (e, g, i.index), (fact_room b f e g h l).1)

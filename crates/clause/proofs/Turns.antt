@@ -8,11 +8,9 @@ use native.Mathlib.Omega.{arith}
 use lib.Dec.{eqb}
 use lib.ListN.{length, get_or}
 use Rattle.lists.specs.List.{filter}
-use Rattle.lists.specs.Written.{Wrote}
 use Rattle.lists.proofs.Number.{number_length}
-use Rattle.lists.proofs.Written.{wrote_same}
 use Rattle.planning.specs.Table.{Task, step, job, Table, job_of}
-use Rattle.planning.specs.Clause.{pos, Clause, all_pos}
+use Rattle.planning.specs.Clause.{pos, all_pos}
 use Rattle.planning.proofs.Task.{length_tasks}
 use Rattle.places.specs.Flat.{Node, tasks_at, method_vars_at}
 use Rattle.places.specs.ClausePlace.{method_at, method_var, tasks_n, slot_at}
@@ -21,93 +19,70 @@ use Rattle.index.specs.Index.{source, meanings_at, SlotAt}
 use Rattle.shape.specs.Shape.{node, InSlot}
 use Rattle.shape.proofs.Slots.{variable_is, step_at}
 use Rattle.clause.specs.Parts.{codes, moves}
-use Rattle.clause.proofs.Loops.{number_get_d, filter_all, Passed, passed_none, passed_room, passed_more, passed_all}
+use Rattle.clause.proofs.Loops.{number_get_d, filter_all, Passed, passed_more, passed_all}
 
 -- The methods of job j ----------------------------------------------------------------------------------------------------------
 module _ (T : Table) (N : Node) (j : ℕ) where
   abbrev pub of_job : ℕ × ℕ → Bool
   of_job m = eqb (job_of T m.1) j
 
-  abbrev pub Methods : (o₀ : List ℕ) (s : ℕ) (o : List ℕ) (a x : ℕ) → Type 0
-  Methods o₀ s o a x = Passed of_job (method_vars_at N) o₀ s o a x
+  abbrev pub Methods : (o₀ o : List ℕ) (x : ℕ) → Type 0
+  Methods o₀ o x = Passed of_job (method_vars_at N) o₀ o x
 
   many : length (method_vars_at N) ≡ length N.methods
   many = number_length (N.first + tasks_n N) N.methods
 
-  module _ {k : ℕ} (e : k ≡ length N.methods) where
-    pub methods_none : (o : List ℕ) (s : ℕ) → k ≤ 128 → s + 128 ≤ length o → Methods o s o s 0
-    methods_none o s h l = passed_none of_job (method_vars_at N) o s (omega (arith, e, many))
+  module _ {k : ℕ} (e : k ≡ length N.methods) (o₀ : List ℕ) {o : List ℕ} (x : ℕ) (u : Methods o₀ o x) where
+    pub methods_more : {o' : List ℕ} {v m p : ℕ} → x < k → v ≡ method_var N x → m ≡ method_at N x → p ≡ job_of T m
+        → o' ≡ o ++ codes (lit_if (eqb p j) v) → Methods o₀ o' (x + 1)
+    methods_more {o'} {v} {m} {p} h f g q w =
+        let y : get_or (method_vars_at N) x (0, 0) ≡ (method_var N x, method_at N x) =
+        number_get_d (N.first + tasks_n N) x N.methods (0, 0) (omega (arith, e)) in
+        passed_more of_job (method_vars_at N) o₀ x u {b = eqb p j} (0, 0) (omega (arith, e, many)) (f ∙ sym (ap (λ (z : ℕ × ℕ). z.0) y)) (rw (y, q, g)) w
 
-    module _ {o₀ o : List ℕ} {s a x : ℕ} (u : Methods o₀ s o a x) where
-      pub methods_room : x < k → a < length o
-      methods_room h = passed_room of_job (method_vars_at N) u (omega (arith, e, many))
-
-      pub methods_more : {o' : List ℕ} {r v m p : ℕ} → x < k → v ≡ method_var N x → m ≡ method_at N x → p ≡ job_of T m
-          → Wrote o a (codes (lit_if (eqb p j) v)) o' r → Methods o₀ s o' r (x + 1)
-      methods_more {o'} {r} {v} {m} {p} h f g q w =
-          let y : get_or (method_vars_at N) x (0, 0) ≡ (method_var N x, method_at N x) =
-          number_get_d (N.first + tasks_n N) x N.methods (0, 0) (omega (arith, e)) in
-          passed_more of_job (method_vars_at N) u {b = eqb p j} (0, 0) (omega (arith, e, many)) (f ∙ sym (ap (λ (z : ℕ × ℕ). z.0) y)) (rw (y, q, g)) w
-
-      pub methods_all : k ≤ x → Wrote o₀ s (codes (all_pos (filter of_job (method_vars_at N)))) o a
-      methods_all h = passed_all of_job (method_vars_at N) u (omega (arith, e, many))
+    pub methods_all : k ≤ x → o ≡ o₀ ++ codes (all_pos (filter of_job (method_vars_at N)))
+    methods_all h = passed_all of_job (method_vars_at N) o₀ x u (omega (arith, e, many))
 
 -- All tasks ---------------------------------------------------------------------------------------------------------------------
 module _ (N : Node) where
   abbrev pub any_task : ℕ × Task → Bool
   any_task t = true
 
-  abbrev pub AllTasks : (o₀ : List ℕ) (s : ℕ) (o : List ℕ) (a x : ℕ) → Type 0
-  AllTasks o₀ s o a x = Passed any_task (tasks_at N) o₀ s o a x
+  abbrev pub AllTasks : (o₀ o : List ℕ) (x : ℕ) → Type 0
+  AllTasks o₀ o x = Passed any_task (tasks_at N) o₀ o x
 
   many_tasks : length (tasks_at N) ≡ tasks_n N
   many_tasks = number_length N.first (map step N.steps ++ map job N.jobs) ∙ length_tasks N.steps N.jobs
 
-  module _ {k : ℕ} (e : k ≡ tasks_n N) where
-    pub tasks_none : (o : List ℕ) → k ≤ 128 → 128 ≤ length o → AllTasks o 0 o 0 0
-    tasks_none o h l = passed_none any_task (tasks_at N) o 0 (omega (arith, e, many_tasks))
+  module _ {k : ℕ} (e : k ≡ tasks_n N) (o₀ : List ℕ) {o : List ℕ} (x : ℕ) (u : AllTasks o₀ o x) where
+    pub tasks_more : {o' : List ℕ} {v : ℕ} → x < k → v ≡ N.first + x → o' ≡ o ++ codes (pos v ∷ []) → AllTasks o₀ o' (x + 1)
+    tasks_more {o'} {v} h f w =
+        let l = map step N.steps ++ map job N.jobs in
+        let y : (get_or (tasks_at N) x (0, step 0)).0 ≡ N.first + x =
+        ap (λ (z : ℕ × Task). z.0) (number_get_d N.first x l (0, step 0) (omega (arith, e, length_tasks N.steps N.jobs))) in
+        passed_more any_task (tasks_at N) o₀ x u {b = true} (0, step 0) (omega (arith, e, many_tasks)) (f ∙ sym y) refl w
 
-    module _ {o₀ o : List ℕ} {s a x : ℕ} (u : AllTasks o₀ s o a x) where
-      pub tasks_room : x < k → a < length o
-      tasks_room h = passed_room any_task (tasks_at N) u (omega (arith, e, many_tasks))
-
-      pub tasks_more : {o' : List ℕ} {r v : ℕ} → x < k → v ≡ N.first + x → Wrote o a (codes (pos v ∷ [])) o' r → AllTasks o₀ s o' r (x + 1)
-      tasks_more {o'} {r} {v} h f w =
-          let l = map step N.steps ++ map job N.jobs in
-          let y : (get_or (tasks_at N) x (0, step 0)).0 ≡ N.first + x =
-          ap (λ (z : ℕ × Task). z.0) (number_get_d N.first x l (0, step 0) (omega (arith, e, length_tasks N.steps N.jobs))) in
-          passed_more any_task (tasks_at N) u {b = true} (0, step 0) (omega (arith, e, many_tasks)) (f ∙ sym y) refl w
-
-      pub tasks_all : k ≤ x → Wrote o₀ s (codes (all_pos (tasks_at N))) o a
-      tasks_all h = wrote_same (ap (λ (l : List (ℕ × Task)). codes (all_pos l)) (filter_all (tasks_at N)))
-          (passed_all any_task (tasks_at N) u (omega (arith, e, many_tasks)))
+    pub tasks_all : k ≤ x → o ≡ o₀ ++ codes (all_pos (tasks_at N))
+    tasks_all h =
+        passed_all any_task (tasks_at N) o₀ x u (omega (arith, e, many_tasks))
+        ∙ ap (λ (l : List (ℕ × Task)). o₀ ++ codes (all_pos l)) (filter_all (tasks_at N))
 
 -- The steps of a slot that make fact f rise, or fall ------------------------------------------------------------------------------
 module _ (T : Table) (n f : ℕ) (rising : Bool) where
   abbrev pub moving : ℕ × ℕ → Bool
   moving x = moves T rising f x.1
 
-  abbrev pub movers : Clause
-  movers = all_pos (filter moving (slot_at (source T) n))
+  abbrev pub Steps : (o₀ o : List ℕ) (x : ℕ) → Type 0
+  Steps o₀ o x = Passed moving (slot_at (source T) n) o₀ o x
 
-  abbrev pub Steps : (o₀ : List ℕ) (s : ℕ) (o : List ℕ) (a x : ℕ) → Type 0
-  Steps o₀ s o a x = Passed moving (slot_at (source T) n) o₀ s o a x
+  module _ {k : ℕ} (e : k ≡ length (slot_at (source T) n)) (o₀ : List ℕ) {o : List ℕ} (x : ℕ) (u : Steps o₀ o x) where
+    pub steps_more : {o' : List ℕ} {v t : ℕ} {b : Bool} → x < k → v ≡ (get_or (slot_at (source T) n) x (0, 0)).0
+        → t ≡ (get_or (slot_at (source T) n) x (0, 0)).1 → b ≡ moves T rising f t
+        → o' ≡ o ++ codes (lit_if b v) → Steps o₀ o' (x + 1)
+    steps_more {o'} {v} {t} {b} h p q g w = passed_more moving (slot_at (source T) n) o₀ x u (0, 0) (omega (arith, e)) p (g ∙ ap (moves T rising f) q) w
 
-  module _ {k : ℕ} (e : k ≡ length (slot_at (source T) n)) where
-    pub steps_none : (o : List ℕ) (s : ℕ) → k ≤ 64 → s + 64 ≤ length o → Steps o s o s 0
-    steps_none o s h l = passed_none moving (slot_at (source T) n) o s (omega (arith, e))
-
-    module _ {o₀ o : List ℕ} {s a x : ℕ} (u : Steps o₀ s o a x) where
-      pub steps_room : x < k → a < length o
-      steps_room h = passed_room moving (slot_at (source T) n) u (omega (arith, e))
-
-      pub steps_more : {o' : List ℕ} {r v t : ℕ} {b : Bool} → x < k → v ≡ (get_or (slot_at (source T) n) x (0, 0)).0
-          → t ≡ (get_or (slot_at (source T) n) x (0, 0)).1 → b ≡ moves T rising f t
-          → Wrote o a (codes (lit_if b v)) o' r → Steps o₀ s o' r (x + 1)
-      steps_more {o'} {r} {v} {t} {b} h p q g w = passed_more moving (slot_at (source T) n) u (0, 0) (omega (arith, e)) p (g ∙ ap (moves T rising f) q) w
-
-      pub steps_all : k ≤ x → Wrote o₀ s (codes movers) o a
-      steps_all h = passed_all moving (slot_at (source T) n) u (omega (arith, e))
+    pub steps_all : k ≤ x → o ≡ o₀ ++ codes (all_pos (filter moving (slot_at (source T) n)))
+    steps_all h = passed_all moving (slot_at (source T) n) o₀ x u (omega (arith, e))
 
 -- its first variable is a, at node c; b is the word of variable 1
 module _ {T : Table} {ix : List ℕ} {n c a k x : ℕ} (i : InSlot T ix n) (node_of : SlotAt T n c) (first_of : (a ≡ (node T c).first) × (1 ≤ a) × (a ≤ 8192))

@@ -1,283 +1,153 @@
-// Rule 2: the clauses (a) to (g) of a node. `ws` is the table and `ix` its index.
-ghost use Rattle.std.specs.Prelude.{◌+◌, ◌≤◌, ◌<◌, eqb, length};
+// Rule 2: the clauses (a) to (g) of a node.
+ghost use Rattle.std.specs.Prelude.{◌≡◌, [], ◌∷◌, ◌+◌, ◌++◌, ◌≤◌, ◌<◌, eqb, length};
 ghost use Rattle.lists.specs.List.{filter};
-ghost use Rattle.lists.specs.Written.{Wrote};
-ghost use Rattle.planning.specs.Table.{job, step, job_of, body_of};
-ghost use Rattle.planning.specs.Clause.{all_pos, var_of};
-ghost use Rattle.table.specs.Layout.{task_from, table_in};
+ghost use Rattle.bitset.specs.Set.{contains, members};
+ghost use Rattle.planning.specs.Table.{job_of};
+ghost use Rattle.planning.specs.Clause.{neg, all_pos};
+ghost use Rattle.table.specs.Layout.{task_from};
 ghost use Rattle.places.specs.Nest.{at};
 ghost use Rattle.places.specs.Flat.{tasks_at, method_vars_at};
-ghost use Rattle.places.specs.ClausePlace.{method_at, methods_of, job_of_method, body_task, inherited as inheritedPlace, up as upPlace, row_len, place_at};
+ghost use Rattle.places.specs.Lookup.{rank, lit_if};
+ghost use Rattle.places.specs.ClausePlace.{methods_of, job_of_method, up as upPlace, row_len, place_at};
 ghost use Rattle.places.specs.ClausePlace.{literals as literalsOf};
-ghost use Rattle.index.specs.Index.{source};
-ghost use Rattle.shape.specs.Shape.{node, InNode, InGroup};
-ghost use Rattle.clause.specs.Parts.{codes, lits_of};
+ghost use Rattle.shape.specs.Shape.{HasLetter};
+ghost use Rattle.shape.specs.Views.{table_of, source_of, flat};
+ghost use Rattle.clause.specs.Parts.{codes, lits_of, at_child as atChild};
 
-use super::lookup::{
-    child_variable, holds, job_at, job_variable, method_variable, own_variable, rank_in, step_at,
-};
-use super::write::{pair, put, put_if};
+use super::codes::Codes;
+use shape::Node;
 use table::Task;
 
-// The variable of a step, of a job or of a task of a body at node n; nothing where it has none there.
-fn put_step<'a, 'b>(
-    ws: &'a [u64],
-    ix: &'a [u64],
-    out: &'b mut [u64],
-    at: usize,
-    n: usize,
-    s: usize,
-) -> usize
-    requires { InNode (table_in ws.now) ix.now n × (at < length out.old) }
-    ensures { Wrote out.old at (codes (var_of (step s) (tasks_at (node (table_in ws.now) n)))) out.new result }
+// The variable of member i of the set in a word, whose variables begin at v; nothing where it is no member.
+fn push_member(out: &mut Codes, v: usize, set: u64, i: usize)
+    requires { (length out.old < 136) × (v ≤ 65536) }
+    ensures { out.new ≡ out.old ++ codes (lit_if (contains (set ∷ []) i) (v + rank (members (set ∷ [])) i)) }
 {
-    let set = index::node_word(ix, n, 1) as u64;
-    let v = own_variable(ws, ix, n, rank_in(set, s));
-    put_if(out, at, v, holds(set, s))
+    let words = [set];
+    out.push_if(v + bitset::rank(&words, i), bitset::has(&words, i));
 }
 
-pub fn put_job<'a, 'b>(
-    ws: &'a [u64],
-    ix: &'a [u64],
-    out: &'b mut [u64],
-    at: usize,
-    n: usize,
-    j: usize,
-) -> usize
-    requires { InNode (table_in ws.now) ix.now n × (at < length out.old) }
-    ensures { Wrote out.old at (codes (var_of (job j) (tasks_at (node (table_in ws.now) n)))) out.new result }
+// The variable of a task at a node; nothing where it has none there.
+pub fn push_task(out: &mut Codes, node: &Node, task: Task)
+    requires { length out.old < 136 }
+    ensures { out.new ≡ out.old ++ codes (lits_of (task_from (Some task)) (flat node.now)) }
 {
-    let set = index::node_word(ix, n, 2) as u64;
-    let v = job_variable(ws, ix, n, rank_in(set, j));
-    put_if(out, at, v, holds(set, j))
-}
-
-fn put_task<'a, 'b>(
-    ws: &'a [u64],
-    ix: &'a [u64],
-    out: &'b mut [u64],
-    at: usize,
-    n: usize,
-    t: Task,
-) -> usize
-    requires { InNode (table_in ws.now) ix.now n × (at < length out.old) }
-    ensures { Wrote out.old at (codes (lits_of (task_from t) (node (table_in ws.now) n))) out.new result }
-{
-    match t {
-        Task::Step(s) => put_step(ws, ix, out, at, n, s),
-        Task::Job(j) => put_job(ws, ix, out, at, n, j),
-        Task::Nothing => at,
+    match task {
+        Task::Step(s) => push_member(out, node.own_variable(0), node.step_set(), s),
+        Task::Job(j) => push_member(out, node.job_variable(0), node.job_set(), j),
     }
 }
 
-// The variables of the methods of job j at node n.
-fn put_methods<'a, 'b>(
-    ws: &'a [u64],
-    ix: &'a [u64],
-    out: &'b mut [u64],
-    at: usize,
-    n: usize,
-    j: usize,
-) -> usize
-    requires { InNode (table_in ws.now) ix.now n × (at + 128 ≤ length out.old) }
-    ensures { Wrote out.old at (codes (all_pos (filter (λ m. eqb (job_of (table_in ws.now) m.1) j)
-        (method_vars_at (node (table_in ws.now) n))))) out.new result }
+// The variables of the methods of job j.
+fn push_methods(out: &mut Codes, node: &Node, j: usize)
+    requires { length out.old + 128 ≤ 136 }
+    ensures { out.new ≡ out.old
+        ++ codes (all_pos (filter (λ m. eqb (job_of (table_of node.now.encoded) m.1) j) (method_vars_at (flat node.now)))) }
 {
-    let k = shape::methods_of(ws, ix, n);
-    let mut a = at;
-    let mut x: usize = 0;
-    while x < k {
-        let m = shape::method(ws, ix, n, x);
-        let v = method_variable(ws, ix, n, x);
-        a = put_if(out, a, v, table::job_of(ws, m) == j);
-        x += 1;
+    for x in 0..node.methods() {
+        let job = table::job_of(node.encoded.table, node.method(x));
+        out.push_if(node.method_variable(x), job == j);
     }
-    a
 }
 
-// The task variables of node n.
-fn put_tasks<'a, 'b>(ws: &'a [u64], ix: &'a [u64], out: &'b mut [u64], n: usize) -> usize
-    requires { InNode (table_in ws.now) ix.now n × (128 ≤ length out.old) }
-    ensures { Wrote out.old 0 (codes (all_pos (tasks_at (node (table_in ws.now) n)))) out.new result }
+// The task variables.
+fn push_tasks(out: &mut Codes, node: &Node)
+    requires { length out.old + 128 ≤ 136 }
+    ensures { out.new ≡ out.old ++ codes (all_pos (tasks_at (flat node.now))) }
 {
-    let k = shape::tasks_of(ws, ix, n);
-    let mut a: usize = 0;
-    let mut t: usize = 0;
-    while t < k {
-        a = put(out, a, own_variable(ws, ix, n, t), true);
-        t += 1;
+    for x in 0..node.tasks() {
+        out.push(node.own_variable(x), true);
     }
-    a
+}
+
+// (a) and (b): variable v, and the one that comes i + 1 behind it.
+fn apart(out: &mut Codes, v: usize, i: usize)
+    requires { (length out.old + 2 ≤ 136) × (v < 65536) × (i < 128) }
+    ensures { out.new ≡ out.old ++ codes (neg v ∷ neg (v + (i + 1)) ∷ []) }
+{
+    out.push_pair(v, v + (i + 1), false);
 }
 
 // (c) job x, then its methods.
-fn methods_of_job<'a, 'b>(
-    ws: &'a [u64],
-    ix: &'a [u64],
-    out: &'b mut [u64],
-    n: usize,
-    x: usize,
-) -> usize
-    requires { InNode (table_in ws.now) ix.now n × (x < length (node (table_in ws.now) n).jobs) × (136 ≤ length out.old) }
-    ensures { Wrote out.old 0 (codes (literalsOf (source (table_in ws.now)) (methods_of n x))) out.new result }
+fn methods_of_job(out: &mut Codes, node: &Node, x: usize)
+    requires { (length out.old + 129 ≤ 136) × (x < length (flat node.now).jobs) }
+    ensures { out.new ≡ out.old ++ codes (literalsOf (source_of node.now.encoded) (methods_of node.now.number x)) }
 {
-    let a = put(out, 0, job_variable(ws, ix, n, x), false);
-    put_methods(ws, ix, out, a, n, job_at(ws, ix, n, x))
+    out.push(node.job_variable(x), false);
+    push_methods(out, node, node.job(x));
 }
 
 // (d) method x, then its job.
-fn job_of_method<'a, 'b>(
-    ws: &'a [u64],
-    ix: &'a [u64],
-    out: &'b mut [u64],
-    n: usize,
-    x: usize,
-) -> usize
-    requires { InNode (table_in ws.now) ix.now n × (x < length (node (table_in ws.now) n).methods) × (136 ≤ length out.old) }
-    ensures { Wrote out.old 0 (codes (literalsOf (source (table_in ws.now)) (job_of_method n x))) out.new result }
+fn job_of_method(out: &mut Codes, node: &Node, x: usize)
+    requires { (length out.old + 129 ≤ 136) × (x < length (flat node.now).methods) }
+    ensures { out.new ≡ out.old ++ codes (literalsOf (source_of node.now.encoded) (job_of_method node.now.number x)) }
 {
-    let j = table::job_of(ws, shape::method(ws, ix, n, x));
-    let a = put(out, 0, method_variable(ws, ix, n, x), false);
-    put_job(ws, ix, out, a, n, j)
+    let job = table::job_of(node.encoded.table, node.method(x));
+    out.push(node.method_variable(x), false);
+    push_task(out, node, Task::Job(job));
 }
 
-// (e) method x, then its task at child y.
-fn body_task<'a, 'b>(
-    ws: &'a [u64],
-    ix: &'a [u64],
-    out: &'b mut [u64],
-    n: usize,
-    x: usize,
-    y: usize,
-) -> usize
-    requires { InNode (table_in ws.now) ix.now n × (x < length (node (table_in ws.now) n).methods)
-        × (y < length (node (table_in ws.now) n).children) × (y < length (body_of (table_in ws.now) (method_at (node (table_in ws.now) n) x)))
-        × (136 ≤ length out.old) }
-    ensures { Wrote out.old 0 (codes (literalsOf (source (table_in ws.now)) (body_task n x y))) out.new result }
+// (e) and (f): v, then what child y has of the task that is named there; where none is, the child's task variable i.
+fn at_child(out: &mut Codes, node: &Node, v: usize, y: usize, named: Option<Task>, i: usize)
+    requires { (length out.old + 129 ≤ 136) × (v < 65536) × (y < length (flat node.now).children) × (i ≤ 128) }
+    ensures { out.new ≡ out.old ++ codes (atChild (flat node.now) v y (task_from named) i) }
 {
-    let t = table::body_task(ws, shape::method(ws, ix, n, x), y);
-    let a = put(out, 0, method_variable(ws, ix, n, x), false);
-    put_task(ws, ix, out, a, shape::child(ws, ix, n, y), t)
-}
-
-// (f) step x, then the same step at the first child.
-fn inherited<'a, 'b>(ws: &'a [u64], ix: &'a [u64], out: &'b mut [u64], n: usize, x: usize) -> usize
-    requires { InNode (table_in ws.now) ix.now n × (x < length (node (table_in ws.now) n).steps)
-        × (0 < length (node (table_in ws.now) n).children) × (136 ≤ length out.old) }
-    ensures { Wrote out.old 0 (codes (literalsOf (source (table_in ws.now)) (inheritedPlace n x))) out.new result }
-{
-    let s = step_at(ws, ix, n, x);
-    let a = put(out, 0, own_variable(ws, ix, n, x), false);
-    put_step(ws, ix, out, a, shape::child(ws, ix, n, 0), s)
-}
-
-// (g) the task variables, then v negated.
-fn up<'a, 'b>(ws: &'a [u64], ix: &'a [u64], out: &'b mut [u64], n: usize, v: usize) -> usize
-    requires { InNode (table_in ws.now) ix.now n × (v < 100000) × (136 ≤ length out.old) }
-    ensures { Wrote out.old 0 (codes (literalsOf (source (table_in ws.now)) (upPlace n v))) out.new result }
-{
-    let a = put_tasks(ws, ix, out, n);
-    put(out, a, v, false)
-}
-
-// (a) and (b): two task variables, or two method variables, of node n: the second is the one that comes i + 1 behind the first.
-fn two_tasks<'a, 'b>(
-    ws: &'a [u64],
-    ix: &'a [u64],
-    out: &'b mut [u64],
-    n: usize,
-    x: usize,
-    i: usize,
-) -> usize
-    requires { InNode (table_in ws.now) ix.now n × (x ≤ 128) × (i ≤ 128) × (136 ≤ length out.old) }
-    ensures { Wrote out.old 0 (codes (literalsOf (source (table_in ws.now))
-        (place_at (source (table_in ws.now)) (at 1 n 0 x 0 i)))) out.new result }
-{
-    let v = own_variable(ws, ix, n, x);
-    pair(out, v, own_variable(ws, ix, n, x + (i + 1)), false)
-}
-
-fn two_methods<'a, 'b>(
-    ws: &'a [u64],
-    ix: &'a [u64],
-    out: &'b mut [u64],
-    n: usize,
-    x: usize,
-    i: usize,
-) -> usize
-    requires { InNode (table_in ws.now) ix.now n × (x < 128) × (i < 128) × (136 ≤ length out.old) }
-    ensures { Wrote out.old 0 (codes (literalsOf (source (table_in ws.now))
-        (place_at (source (table_in ws.now)) (at 1 n 1 x 0 i)))) out.new result }
-{
-    let v = method_variable(ws, ix, n, x);
-    pair(out, v, method_variable(ws, ix, n, x + (i + 1)), false)
-}
-
-// (e) and (f) at child y: its task, where the body has a name there or where it is the first; else the child's task variable i.
-fn body<'a, 'b>(
-    ws: &'a [u64],
-    ix: &'a [u64],
-    out: &'b mut [u64],
-    n: usize,
-    x: usize,
-    y: usize,
-    i: usize,
-) -> usize
-    requires { InNode (table_in ws.now) ix.now n × (x < length (node (table_in ws.now) n).methods)
-        × (y < length (node (table_in ws.now) n).children) × (i ≤ 128) × (136 ≤ length out.old) }
-    ensures { Wrote out.old 0 (codes (literalsOf (source (table_in ws.now))
-        (place_at (source (table_in ws.now)) (at 1 n 4 x y i)))) out.new result }
-{
-    if shape::is_named(ws, ix, n, x, y) {
-        return body_task(ws, ix, out, n, x, y);
+    match named {
+        Some(task) => {
+            out.push(v, false);
+            push_task(out, &node.child(y), task);
+        }
+        None => out.push_pair(v, node.child_variable(y, i), false),
     }
-    let v = method_variable(ws, ix, n, x);
-    pair(out, v, child_variable(ws, ix, n, y, i), false)
 }
 
-fn pass<'a, 'b>(
-    ws: &'a [u64],
-    ix: &'a [u64],
-    out: &'b mut [u64],
-    n: usize,
-    x: usize,
-    y: usize,
-    i: usize,
-) -> usize
-    requires { InNode (table_in ws.now) ix.now n × (x < length (node (table_in ws.now) n).steps)
-        × (y < length (node (table_in ws.now) n).children) × (i ≤ 128) × (136 ≤ length out.old) }
-    ensures { Wrote out.old 0 (codes (literalsOf (source (table_in ws.now))
-        (place_at (source (table_in ws.now)) (at 1 n 5 x y i)))) out.new result }
+// (e) method x at child y: what its body names there.
+fn body(out: &mut Codes, node: &Node, x: usize, y: usize, i: usize)
+    requires { (length out.old + 129 ≤ 136) × (x < length (flat node.now).methods) × (y < length (flat node.now).children) × (i ≤ 128) }
+    ensures { out.new ≡ out.old ++ codes (literalsOf (source_of node.now.encoded)
+        (place_at (source_of node.now.encoded) (at 1 node.now.number 4 x y i))) }
 {
-    if y == 0 {
-        return inherited(ws, ix, out, n, x);
-    }
-    let v = own_variable(ws, ix, n, x);
-    pair(out, v, child_variable(ws, ix, n, y, i), false)
+    let named = table::body_task(node.encoded.table, node.method(x), y);
+    at_child(out, node, node.method_variable(x), y, named, i);
+}
+
+// (f) step x at child y: the same step at the first.
+fn pass(out: &mut Codes, node: &Node, x: usize, y: usize, i: usize)
+    requires { (length out.old + 129 ≤ 136) × (x < length (flat node.now).steps) × (y < length (flat node.now).children) × (i ≤ 128) }
+    ensures { out.new ≡ out.old ++ codes (literalsOf (source_of node.now.encoded)
+        (place_at (source_of node.now.encoded) (at 1 node.now.number 5 x y i))) }
+{
+    let named = if y == 0 {
+        Some(Task::Step(node.step(x)))
+    } else {
+        None
+    };
+    at_child(out, node, node.own_variable(x), y, named, i);
+}
+
+// (g) the task variables, then a child's variable negated.
+fn up(out: &mut Codes, node: &Node, below: usize)
+    requires { (length out.old + 129 ≤ 136) × (below < 100000) }
+    ensures { out.new ≡ out.old ++ codes (literalsOf (source_of node.now.encoded) (upPlace node.now.number below)) }
+{
+    push_tasks(out, node);
+    out.push(below, false);
 }
 
 // (a) to (g).
-pub fn node_clause<'a, 'b>(
-    ws: &'a [u64],
-    ix: &'a [u64],
-    out: &'b mut [u64],
-    n: usize,
-    g: usize,
-    x: usize,
-    y: usize,
-    i: usize,
-) -> usize
-    requires { InGroup (table_in ws.now) ix.now 1 n g × (i < row_len (source (table_in ws.now)) 1 n g x y) × (136 ≤ length out.old) }
-    ensures { Wrote out.old 0 (codes (literalsOf (source (table_in ws.now))
-        (place_at (source (table_in ws.now)) (at 1 n g x y i)))) out.new result }
+pub fn node_clause(out: &mut Codes, node: &Node, g: usize, x: usize, y: usize, i: usize)
+    requires { (length out.old + 129 ≤ 136) × HasLetter (source_of node.now.encoded) 1 node.now.number g
+        × (i < row_len (source_of node.now.encoded) 1 node.now.number g x y) }
+    ensures { out.new ≡ out.old ++ codes (literalsOf (source_of node.now.encoded)
+        (place_at (source_of node.now.encoded) (at 1 node.now.number g x y i))) }
 {
     match g {
-        0 => two_tasks(ws, ix, out, n, x, i),
-        1 => two_methods(ws, ix, out, n, x, i),
-        2 => methods_of_job(ws, ix, out, n, i),
-        3 => job_of_method(ws, ix, out, n, i),
-        4 => body(ws, ix, out, n, x, y, i),
-        5 => pass(ws, ix, out, n, x, y, i),
-        _ => up(ws, ix, out, n, child_variable(ws, ix, n, x, i)),
+        0 => apart(out, node.own_variable(x), i),
+        1 => apart(out, node.method_variable(x), i),
+        2 => methods_of_job(out, node, i),
+        3 => job_of_method(out, node, i),
+        4 => body(out, node, x, y, i),
+        5 => pass(out, node, x, y, i),
+        _ => up(out, node, node.child_variable(x, i)),
     }
 }

@@ -12,11 +12,11 @@ use nodes::Node;
 
 // Checks a table: how many nodes, variables and clauses there are.
 #[unsafe(no_mangle)]
-pub extern "C" fn curdfuture_check<'a, 'b, 'c, 'd>(
-    file: &'a [u8],
-    nodes: &'b mut usize,
-    variables: &'c mut usize,
-    clauses: &'d mut usize,
+pub extern "C" fn curdfuture_check(
+    file: &[u8],
+    nodes: &mut usize,
+    variables: &mut usize,
+    clauses: &mut usize,
 ) -> usize
     ensures { Crossed (checking file.now) (nodes.old ∷ variables.old ∷ clauses.old ∷ [])
         (nodes.new ∷ variables.new ∷ clauses.new ∷ []) result }
@@ -26,11 +26,7 @@ pub extern "C" fn curdfuture_check<'a, 'b, 'c, 'd>(
 
 // Builds the tree, one record a node: how many nodes there are.
 #[unsafe(no_mangle)]
-pub extern "C" fn curdfuture_build<'a, 'b, 'c>(
-    file: &'a [u8],
-    tree: &'b mut [Node],
-    nodes: &'c mut usize,
-) -> usize
+pub extern "C" fn curdfuture_build(file: &[u8], tree: &mut [Node], nodes: &mut usize) -> usize
     ensures { Crossed (building file.now tree.old) (nodes.old ∷ []) (nodes.new ∷ []) result
         × (tree.new ≡ tree_after file.now tree.old) }
 {
@@ -39,13 +35,13 @@ pub extern "C" fn curdfuture_build<'a, 'b, 'c>(
 
 // Writes text from a line on: the bytes used and the next line.
 #[unsafe(no_mangle)]
-pub extern "C" fn curdfuture_write_text<'a, 'b, 'c, 'd, 'e>(
-    file: &'a [u8],
-    tree: &'b [Node],
+pub extern "C" fn curdfuture_write_text(
+    file: &[u8],
+    tree: &[Node],
     line: usize,
-    text: &'c mut [u8],
-    used: &'d mut usize,
-    next: &'e mut usize,
+    text: &mut [u8],
+    used: &mut usize,
+    next: &mut usize,
 ) -> usize
     ensures { Crossed (writing file.now tree.now line text.old) (used.old ∷ next.old ∷ [])
         (used.new ∷ next.new ∷ []) result
@@ -56,12 +52,12 @@ pub extern "C" fn curdfuture_write_text<'a, 'b, 'c, 'd, 'e>(
 
 // Writes the formula's text from a line on, with no tree lent: the bytes used and the next line.
 #[unsafe(no_mangle)]
-pub extern "C" fn curdfuture_write_formula<'a, 'b, 'c, 'd>(
-    file: &'a [u8],
+pub extern "C" fn curdfuture_write_formula(
+    file: &[u8],
     line: usize,
-    text: &'b mut [u8],
-    used: &'c mut usize,
-    next: &'d mut usize,
+    text: &mut [u8],
+    used: &mut usize,
+    next: &mut usize,
 ) -> usize
     ensures { Crossed (writing_formula file.now line text.old)
         (used.old ∷ next.old ∷ []) (used.new ∷ next.new ∷ []) result
@@ -72,12 +68,12 @@ pub extern "C" fn curdfuture_write_formula<'a, 'b, 'c, 'd>(
 
 // Takes an answer: how many values there are.
 #[unsafe(no_mangle)]
-pub extern "C" fn curdfuture_take_answer<'a, 'b, 'c, 'd, 'e>(
-    file: &'a [u8],
-    tree: &'b [Node],
-    reply: &'c [u8],
-    values: &'d mut [u8],
-    count: &'e mut usize,
+pub extern "C" fn curdfuture_take_answer(
+    file: &[u8],
+    tree: &[Node],
+    reply: &[u8],
+    values: &mut [u8],
+    count: &mut usize,
 ) -> usize
     ensures { Crossed (taking file.now tree.now reply.now values.old) (count.old ∷ [])
         (count.new ∷ []) result
@@ -88,12 +84,12 @@ pub extern "C" fn curdfuture_take_answer<'a, 'b, 'c, 'd, 'e>(
 
 // Lists a procedure: the bytes used.
 #[unsafe(no_mangle)]
-pub extern "C" fn curdfuture_list_procedure<'a, 'b, 'c, 'd, 'e>(
-    file: &'a [u8],
-    tree: &'b [Node],
-    values: &'c [u8],
-    listing: &'d mut [u8],
-    used: &'e mut usize,
+pub extern "C" fn curdfuture_list_procedure(
+    file: &[u8],
+    tree: &[Node],
+    values: &[u8],
+    listing: &mut [u8],
+    used: &mut usize,
 ) -> usize
     ensures { Crossed (showing file.now tree.now values.now listing.old) (used.old ∷ [])
         (used.new ∷ []) result
@@ -104,11 +100,11 @@ pub extern "C" fn curdfuture_list_procedure<'a, 'b, 'c, 'd, 'e>(
 
 // Lists the procedure of an answer, with no tree and no values lent: the bytes used.
 #[unsafe(no_mangle)]
-pub extern "C" fn curdfuture_list_answer<'a, 'b, 'c, 'd>(
-    file: &'a [u8],
-    reply: &'b [u8],
-    listing: &'c mut [u8],
-    used: &'d mut usize,
+pub extern "C" fn curdfuture_list_answer(
+    file: &[u8],
+    reply: &[u8],
+    listing: &mut [u8],
+    used: &mut usize,
 ) -> usize
     ensures { Crossed (showing_answer file.now reply.now listing.old)
         (used.old ∷ []) (used.new ∷ []) result

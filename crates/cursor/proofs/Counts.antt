@@ -11,19 +11,20 @@ use native.Mathlib.Omega.{arith}
 use lib.Dec.{eqb}
 use lib.ListN.{length, drop, get_or}
 use lib.Seq.{drop-drop, drop-nil}
+use borrow.Author.Tests.{lt-ltb}
 use Rattle.lists.proofs.Bool.{eqb_other}
 use Rattle.planning.specs.Table.{Table}
 use Rattle.places.specs.Nest.{at, left, positions}
 use Rattle.places.specs.Flat.{Node}
-use Rattle.places.specs.ClausePlace.{Source, shape, nodes_in, row_len, child_at, width, tasks_n, named_at, slot_at, effect_facts}
+use Rattle.places.specs.ClausePlace.{Source, shape, nodes_in, group_at, row_len, child_at, width, tasks_n, named_at, slot_at, effect_facts}
 use Rattle.places.specs.Cursor.{Seeking}
 use Rattle.places.specs.Total.{sum_to, pair_count, widths_to, body_count, pass_count, node_count, effect_count, slot_count, count_at}
 use Rattle.places.proofs.Next.{seek_start, seek_node}
 use Rattle.places.proofs.Total.{sum_to_same, sum_to_first}
 use Rattle.places.proofs.Walk.{left_clause}
 use Rattle.index.specs.Index.{source}
-use Rattle.shape.specs.Shape.{Indexed, node, InNode, InSlot, InGroup}
-use Rattle.shape.proofs.Groups.{in_row}
+use Rattle.shape.specs.Shape.{Indexed, node}
+use Rattle.shape.proofs.Groups.{row_most}
 use Rattle.cursor.specs.Cursor.{pos_of, of_pos, left_in, cursor_of, In, Moved, NodePassed, SoughtRow, Found}
 use Rattle.cursor.specs.declared.Cursor.{Cursor}
 use Rattle.cursor.proofs.Moves.{left_at_end, stands_of, start_stands}
@@ -100,61 +101,45 @@ module _ (T : Table) (N : Node) where
       (omega (arith, fa, fb, fp, hj.0, hm.0, he.0, hw.0), omega (arith, l, ha.1, hb.1, hj.1, hm.1, he.1, hw.1))
 
 -- rows are short
-module _ {T : Table} {ix : List ℕ} {n : ℕ} where
-  letter : InNode T ix n → (g : ℕ) → g < 7 → InGroup T ix 1 n g
-  letter i g h = record { indexed = i.indexed; rule = omega arith; there = i.there; group = h }
+module _ {T : Table} {ix : List ℕ} (i : Indexed T ix) where
+  in_row : (r n g : ℕ) {k x y : ℕ} → n < nodes_in (source T) r → x < (group_at (source T) r n g).xs → y < (group_at (source T) r n g).ys → k ≡ (group_at (source T) r n g).len x y → k ≤ 128
+  in_row r n g {k} {x} {y} t h l e =
+      let q : k ≡ row_len (source T) r n g x y =
+      e ∙ sym (rw (lt-ltb n (nodes_in (source T) r) t, lt-ltb x (group_at (source T) r n g).xs h, lt-ltb y (group_at (source T) r n g).ys l)) in
+      omega (arith, row_most i r n g x y)
 
-  pub width_most : InNode T ix n → {k y : ℕ} → y < length (node T n).children → k ≡ width (child_at (node T n) y) → k ≤ 128
-  width_most i {k} {y} h e = (in_row (letter i 6 (omega arith)) {k = k} {x = y} {y = 0} h (omega arith) e).1
+  pub body_most : {n k x y : ℕ} → n < length (source T).nodes → x < length (node T n).methods → y < length (node T n).children → k ≡ cond (named_at T (node T n) x y) 1 (width (child_at (node T n) y)) → k ≤ 128
+  body_most {n} {k} {x} {y} t h l e = in_row 1 n 4 {k = k} {x = x} {y = y} t h l e
 
-  pub body_most : InNode T ix n → {k x y : ℕ} → x < length (node T n).methods → y < length (node T n).children → k ≡ cond (named_at T (node T n) x y) 1 (width (child_at (node T n) y)) → k ≤ 128
-  body_most i {k} {x} {y} h l e = (in_row (letter i 4 (omega arith)) {k = k} {x = x} {y = y} h l e).1
-
-  pub effect_most : InSlot T ix n → {k x : ℕ} → x < length (slot_at (source T) n) → {y : ℕ} → y < 3 → k ≡ length (effect_facts T (get_or (slot_at (source T) n) x (0, 0)).1 y) → k ≤ 128
-  effect_most i {k} {x} h {y} l e =
-      let at : InGroup T ix 3 n 0 = record { indexed = i.indexed; rule = omega arith; there = i.there; group = omega arith } in
-      (in_row at {k = k} {x = x} {y = y} h l e).1
+  pub effect_most : {n k x : ℕ} → n < length (source T).slots → x < length (slot_at (source T) n) → {y : ℕ} → y < 3 → k ≡ length (effect_facts T (get_or (slot_at (source T) n) x (0, 0)).1 y) → k ≤ 128
+  effect_most {n} {k} {x} t h {y} l e = in_row 3 n 0 {k = k} {x = x} {y = y} t h l e
 
   -- rule 4 of a step: its three parts
-  pub effects_count : InSlot T ix n → {x s a b d : ℕ} → x < length (slot_at (source T) n) → s ≡ (get_or (slot_at (source T) n) x (0, 0)).1
+  pub effects_count : {n : ℕ} → n < length (source T).slots → {x s a b d : ℕ} → x < length (slot_at (source T) n) → s ≡ (get_or (slot_at (source T) n) x (0, 0)).1
       → a ≡ length (effect_facts T s 0) → b ≡ length (effect_facts T s 1) → d ≡ length (effect_facts T s 2)
       → (a + (b + d) ≡ effect_count T (get_or (slot_at (source T) n) x (0, 0)).1) × (a + (b + d) ≤ 384)
-  effects_count i {x} {s} {a} {b} {d} h q ea eb ed =
+  effects_count {n} t {x} {s} {a} {b} {d} h q ea eb ed =
       let fa : a ≡ length (effect_facts T (get_or (slot_at (source T) n) x (0, 0)).1 0) = rw q at ea in
       let fb : b ≡ length (effect_facts T (get_or (slot_at (source T) n) x (0, 0)).1 1) = rw q at eb in
       let fd : d ≡ length (effect_facts T (get_or (slot_at (source T) n) x (0, 0)).1 2) = rw q at ed in
-      (omega (arith, fa, fb, fd), omega (arith, effect_most i h {y = 0} (omega arith) fa, effect_most i h {y = 1} (omega arith) fb, effect_most i h {y = 2} (omega arith) fd))
+      (omega (arith, fa, fb, fd), omega (arith, effect_most t h {y = 0} (omega arith) fa, effect_most t h {y = 1} (omega arith) fb, effect_most t h {y = 2} (omega arith) fd))
 
   -- the steps of a slot, and two clauses a fact
-  pub slot_summed : InSlot T ix n → {e k x f : ℕ} → e ≡ length (slot_at (source T) n) → e ≤ 64 → Summing (λ y. effect_count T (get_or (slot_at (source T) n) y (0, 0)).1) 384 e x k → e ≤ x → f ≡ T.facts
+  pub slot_summed : (n : ℕ) {e k x f : ℕ} → e ≡ length (slot_at (source T) n) → e ≤ 64 → Summing (λ y. effect_count T (get_or (slot_at (source T) n) y (0, 0)).1) 384 (length (slot_at (source T) n)) x k → e ≤ x → f ≡ T.facts
       → (k + (f + f) ≡ slot_count T (slot_at (source T) n)) × (k + (f + f) ≤ 917504)
-  slot_summed i {e} {k} {x} {f} q l s h g =
-      let fk : k ≡ sum_to (λ y. effect_count T (get_or (slot_at (source T) n) y (0, 0)).1) (length (slot_at (source T) n)) = summing_all s h ∙ ap (sum_to (λ y. effect_count T (get_or (slot_at (source T) n) y (0, 0)).1)) q in
-      (omega (arith, fk, g), omega (arith, s.most, s.at, g, i.indexed.accepted.limits.facts))
+  slot_summed n {e} {k} {x} {f} q l s h g =
+      let fk : k ≡ sum_to (λ y. effect_count T (get_or (slot_at (source T) n) y (0, 0)).1) (length (slot_at (source T) n)) = summing_all s (omega arith) in
+      (omega (arith, fk, g), omega (arith, s.most, s.at, g, i.accepted.limits.facts))
 
 -- Nodes and slots of a rule ------------------------------------------------------------------------------------------------------
-module _ {T : Table} {ix : List ℕ} (i : Indexed T ix) {r n : ℕ} (h : n < nodes_in (source T) r) where
-  pub node_of : r ≡ 1 → InNode T ix n
-  node_of e = record { indexed = i; there = rw e at h }
+pub facts_at : {T : Table} {ix : List ℕ} → Indexed T ix → (n : ℕ) {k : ℕ} → k ≡ T.facts → (k ≡ count_at (source T) 2 n) × (k ≤ 917504)
+facts_at i n f = (f, omega (arith, f, i.accepted.limits.facts))
 
-  pub slot_of : r ≡ 3 → InSlot T ix n
-  slot_of e = record { indexed = i; there = rw e at h }
-
-module _ (T : Table) (n : ℕ) {r k : ℕ} where
-  pub letters_at : r ≡ 1 → (k ≡ node_count T (node T n)) × (k ≤ 917504) → (k ≡ count_at (source T) r n) × (k ≤ 917504)
-  letters_at e c = (rw e c.0, c.1)
-
-  pub slot_at_lem : r ≡ 3 → (k ≡ slot_count T (slot_at (source T) n)) × (k ≤ 917504) → (k ≡ count_at (source T) r n) × (k ≤ 917504)
-  slot_at_lem e c = (rw e c.0, c.1)
-
-pub facts_at : {T : Table} {ix : List ℕ} → Indexed T ix → (n : ℕ) {r k : ℕ} → r ≡ 2 → k ≡ T.facts → (k ≡ count_at (source T) r n) × (k ≤ 917504)
-facts_at i n e f = (rw e f, omega (arith, f, i.accepted.limits.facts))
-
-pub root_at : (T : Table) (r n : ℕ) → r < 4 → (r ≡ 1 → ⊥) → (r ≡ 3 → ⊥) → (r ≡ 2 → ⊥) → (1 ≡ count_at (source T) r n) × (◌≤◌ 1 917504)
+pub root_at : (T : Table) (r n : ℕ) → r < 4 → (r ≡ 1 → ⊥) → (r ≡ 2 → ⊥) → (r ≡ 3 → ⊥) → (1 ≡ count_at (source T) r n) × (◌≤◌ 1 917504)
 root_at T zero n h a b c = (refl, omega arith)
 root_at T (suc zero) n h a b c = absurd (a refl)
-root_at T (suc (suc zero)) n h a b c = absurd (c refl)
-root_at T (suc (suc (suc zero))) n h a b c = absurd (b refl)
+root_at T (suc (suc zero)) n h a b c = absurd (b refl)
+root_at T (suc (suc (suc zero))) n h a b c = absurd (c refl)
 root_at T (suc (suc (suc (suc r)))) n h a b c = absurd (omega arith)
 
 -- Seeking ----------------------------------------------------------------------------------------------------------------------

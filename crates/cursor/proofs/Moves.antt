@@ -19,15 +19,15 @@ use Rattle.places.proofs.Walk.{left_clause, left_row, left_column, left_group, l
 use Rattle.places.proofs.Total.{skip_rule, skip_last}
 use Rattle.index.specs.Index.{source}
 use Rattle.index.proofs.Known.{nodes_count}
-use Rattle.shape.specs.Shape.{Indexed, InGroup}
+use Rattle.shape.specs.Shape.{Indexed, HasLetter}
 use Rattle.shape.proofs.Nodes.{few_nodes, few_slots}
 use Rattle.tree.proofs.Visits.{nodes_some}
 use Rattle.cursor.specs.Cursor.{of_pos, left_in, answer_of, next_of, Means, Stands, at_end, In, Handed, row_end, Moved, NodePassed}
 use Rattle.cursor.specs.declared.Cursor.{Cursor}
-use Rattle.cursor.specs.declared.Next.TheVariants.{Clause, End}
+use Rattle.std.specs.Prelude.{Some, None}
 
-pub letter_of : {T : Table} {ix : List ℕ} {c : Cursor} → Indexed T ix → Stands T c → InGroup T ix c.rule c.node c.group
-letter_of i s = record { indexed = i; rule = s.rule; there = s.node; group = s.group }
+pub letter_of : {T : Table} {c : Cursor} → Stands T c → HasLetter (source T) c.rule c.node c.group
+letter_of s = record { rule = s.rule; there = s.node; group = s.group }
 
 -- every rule has a letter
 some_letter : (r : ℕ) → 0 < groups_in r
@@ -52,11 +52,11 @@ nodes_most {T} i (suc (suc (suc zero))) = few_slots T i.accepted
 nodes_most i (suc (suc (suc (suc r)))) = omega arith
 
 -- the first letter of a node
-pub begins : {T : Table} {ix : List ℕ} {r n : ℕ} → Indexed T ix → r < 4 → n < nodes_in (source T) r → InGroup T ix r n 0
-begins {T} {ix} {r} i h l = record { indexed = i; rule = h; there = l; group = some_letter r }
+pub begins : {T : Table} {r n : ℕ} → r < 4 → n < nodes_in (source T) r → HasLetter (source T) r n 0
+begins {T} {r} h l = record { rule = h; there = l; group = some_letter r }
 
-pub next_letter : {T : Table} {ix : List ℕ} {c : Cursor} {k : ℕ} → Indexed T ix → Stands T c → k ≡ groups_in c.rule → c.group + 1 < k → InGroup T ix c.rule c.node (c.group + 1)
-next_letter i s e h = record { indexed = i; rule = s.rule; there = s.node; group = omega (arith, e) }
+pub next_letter : {T : Table} {c : Cursor} {k : ℕ} → Stands T c → k ≡ groups_in c.rule → c.group + 1 < k → HasLetter (source T) c.rule c.node (c.group + 1)
+next_letter s e h = record { rule = s.rule; there = s.node; group = omega (arith, e) }
 
 -- What falls -----------------------------------------------------------------------------------------------------------------
 fall_y : (h y : ℕ) → y < 8 → h + (8 - (y + 1)) < h + (8 - y)
@@ -237,19 +237,19 @@ module _ {T : Table} {c₀ c : Cursor} (u : Upto T c₀ c) where
   abbrev behind : Cursor
   behind = record { rule = c.rule; node = c.node; group = c.group; x = c.x; y = c.y; i = c.i + 1; len = c.len }
 
-  pub hands_out : c.rule < 4 → c.i < c.len → (Clause c behind ≡ next_of T c₀) × Handed T (Clause c behind) × Means T c₀ (Clause c behind)
+  pub hands_out : c.rule < 4 → c.i < c.len → (Some (c, behind) ≡ next_of T c₀) × Handed T (Some (c, behind)) × Means T c₀ (Some (c, behind))
   unfolding shape
   hands_out r h =
       let s = stands_of u.inside r in
       let l : c.i < row_len (source T) c.rule c.node c.group c.x c.y = omega (arith, s.len) in
       let q = u.same ∙ left_clause (shape (source T)) c.rule c.node c.group c.x c.y c.i l in (
-        ap (λ (k : ℕ). Clause (record { rule = c.rule; node = c.node; group = c.group; x = c.x; y = c.y; i = c.i; len = k }) (record { rule = c.rule; node = c.node; group = c.group; x = c.x; y = c.y; i = c.i + 1; len = k })) s.len
+        ap (λ (k : ℕ). Some (record { rule = c.rule; node = c.node; group = c.group; x = c.x; y = c.y; i = c.i; len = k }, record { rule = c.rule; node = c.node; group = c.group; x = c.x; y = c.y; i = c.i + 1; len = k })) s.len
             ∙ sym (ap (answer_of T) q),
         (record { stands = s; clause = l }, inl (record { rule = s.rule; node = s.node; group = s.group; x = s.x; y = s.y; len = s.len })),
         ap clauses_of q,
       )
 
-  pub ends : 4 ≤ c.rule → (End ≡ next_of T c₀) × Handed T End × Means T c₀ End
+  pub ends : 4 ≤ c.rule → (None ≡ next_of T c₀) × Handed T None × Means T c₀ None
   ends h = let q = u.same ∙ go u.inside in (sym (ap (answer_of T) q), tt, ap clauses_of q)
     where
       go : In T c → left_in T c ≡ []

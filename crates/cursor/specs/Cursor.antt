@@ -1,6 +1,6 @@
 -- Inside the encoding, nothing to believe: the clause cursor, what its method `next` hands back, and what is left behind a row or a node that
 -- is passed over. The places it goes through are those of crate `places`, whose clauses in this order are planning's formula. Assumes nothing.
-use Rattle.std.specs.Prelude.{◌≡◌, cond, List, [], ◌∷◌, ◌⊎◌, ℕ, ◌+◌, ◌-◌, ◌*◌, ◌≤◌, ◌<◌, eqb, ltb, drop}
+use Rattle.std.specs.Prelude.{◌≡◌, cond, List, [], ◌∷◌, ◌⊎◌, ℕ, ◌+◌, ◌-◌, ◌*◌, ◌≤◌, ◌<◌, eqb, ltb, drop, Option, Some, None}
 use Rattle.planning.specs.Table.{Table}
 use Rattle.planning.specs.Clause.{Clause as PlanningClause}
 use Rattle.places.specs.Nest.{Pos, at, left, positions}
@@ -8,8 +8,6 @@ use Rattle.places.specs.ClausePlace.{shape, group_at, groups_in, nodes_in, row_l
 use Rattle.places.specs.Cursor.{after, clauses_left, Seeking}
 use Rattle.index.specs.Index.{source}
 use Rattle.cursor.specs.declared.Cursor.{Cursor}
-use Rattle.cursor.specs.declared.Next.{Next}
-use Rattle.cursor.specs.declared.Next.TheVariants.{Clause, End}
 
 -- how many clauses the row of a place has
 abbrev pub row_of : Table → Pos → ℕ
@@ -33,18 +31,18 @@ abbrev pub clause_at : Table → Cursor → PlanningClause
 clause_at T c = literals (source T) (place_at (source T) (pos_of c))
 
 -- what the method hands back: the next clause's place and the cursor behind it, or the end
-abbrev pub answer_of : Table → List Pos → Next
-answer_of T [] = End
-answer_of T (p ∷ ps) = Clause (of_pos T p) (of_pos T (after p))
+abbrev pub answer_of : Table → List Pos → Option (Cursor × Cursor)
+answer_of T [] = None
+answer_of T (p ∷ ps) = Some (of_pos T p, of_pos T (after p))
 
-abbrev pub next_of : Table → Cursor → Next
+abbrev pub next_of : Table → Cursor → Option (Cursor × Cursor)
 next_of T c = answer_of T (left_in T c)
 
 -- the meaning of each case, where the cursor stood at c: no clause is left; or the first that is left stands at the place, and the others are
 -- left behind it
-abbrev pub Means : Table → Cursor → Next → Type 0
-Means T c End = clauses_in T c ≡ []
-Means T c (Clause p d) = clauses_in T c ≡ clause_at T p ∷ clauses_in T d
+abbrev pub Means : Table → Cursor → Option (Cursor × Cursor) → Type 0
+Means T c None = clauses_in T c ≡ []
+Means T c (Some (p, d)) = clauses_in T c ≡ clause_at T p ∷ clauses_in T d
 
 -- a cursor stands at a letter of a node, or at the end, which is rule 4
 pub record Stands (T : Table) (c : Cursor) : Type 0 where
@@ -67,9 +65,9 @@ pub record Holds (T : Table) (c : Cursor) : Type 0 where
   pub clause : c.i < row_len (source T) c.rule c.node c.group c.x c.y
 
 -- what is known of what is handed back
-abbrev pub Handed : Table → Next → Type 0
-Handed T End = Unit {0}
-Handed T (Clause p d) = Holds T p × In T d
+abbrev pub Handed : Table → Option (Cursor × Cursor) → Type 0
+Handed T None = Unit {0}
+Handed T (Some (p, d)) = Holds T p × In T d
 
 -- falls at every move
 abbrev pub rank_of : Cursor → ℕ

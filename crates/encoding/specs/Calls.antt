@@ -1,6 +1,7 @@
 -- The calls of the formula part: what each hands back and leaves in what it was lent, for every file, every buffer and every line.
 -- Assumes nothing.
-use Rattle.std.specs.Prelude.{Bool, true, ◌&&◌, List, [], ◌∷◌, ◌++◌, ℕ, leb, length, drop}
+use Rattle.std.specs.Prelude.{Bool, true, ◌&&◌, List, [], ◌∷◌, ◌++◌, ℕ, leb, length, drop, Result}
+use Rattle.unmet.specs.declared.Unmet.{Unmet}
 use Rattle.planning.specs.Table.{Table}
 use Rattle.planning.specs.Place.{root_place, nodes}
 use Rattle.planning.specs.Variable.{variables}
@@ -8,13 +9,9 @@ use Rattle.planning.specs.Clause.{formula}
 use Rattle.planning.specs.Text.{written, bytes_used, next_line}
 use Rattle.nodes.specs.Tree.{tree_of, enough_tree, met10}
 use Rattle.nodes.specs.declared.Node.{Node}
-use Rattle.questions.specs.Questions.{asked, HandedBack, turned_down, taken}
-use Rattle.encoding.specs.declared.Checked.{Checked}
-use Rattle.encoding.specs.declared.Checked.TheVariants.{Refused as CheckRefused, Accepted as CheckAccepted}
-use Rattle.encoding.specs.declared.Built.{Built}
-use Rattle.encoding.specs.declared.Built.TheVariants.{Refused as BuildRefused, Nodes}
-use Rattle.encoding.specs.declared.Text.{Text}
-use Rattle.encoding.specs.declared.Text.TheVariants.{Refused as TextRefused, Written}
+use Rattle.text.specs.declared.Lines.{Lines}
+use Rattle.questions.specs.Questions.{asked, HandedBack, turned_down, taken, handed}
+use Rattle.encoding.specs.declared.Counts.{Counts}
 
 -- 11. "Is the line asked for at most the clause count?" (8 and 9 stand in crate `questions`, 2 to 7 in `table`, 1 of the tree and 10 in `nodes`,
 -- beside the form of the records.)
@@ -26,17 +23,15 @@ abbrev pub enough_text : List ℕ → Bool
 enough_text text = leb 1024 (length text)
 
 -- Checking a table: 2 to 9; how many nodes, variables and clauses there are
-abbrev pub checked_from : Checked → HandedBack
-checked_from (CheckRefused n) = turned_down n
-checked_from (CheckAccepted n v m) = taken (n ∷ v ∷ m ∷ [])
+abbrev pub checked_from : Result Counts Unmet → HandedBack
+checked_from r = handed (λ c. c.nodes ∷ c.variables ∷ c.clauses ∷ []) r
 
 abbrev pub checking : (file : List ℕ) → HandedBack
 checking file = asked true file (λ T. []) turned_down (λ T. taken (nodes (root_place T) ∷ variables T ∷ length (formula T) ∷ []))
 
 -- Building the tree: 1, 2 to 9; how many nodes there are. The first records are the table's, the others keep their contents
-abbrev pub built_from : Built → HandedBack
-built_from (BuildRefused n) = turned_down n
-built_from (Nodes n) = taken (n ∷ [])
+abbrev pub built_from : Result ℕ Unmet → HandedBack
+built_from r = handed (λ n. n ∷ []) r
 
 abbrev pub building : (file : List ℕ) (tree : List Node) → HandedBack
 building file tree = asked (enough_tree tree) file (λ T. []) turned_down (λ T. taken (nodes (root_place T) ∷ []))
@@ -46,9 +41,8 @@ tree_after file tree =
     asked (enough_tree tree) file (λ T. []) (λ n. tree) (λ T. tree_of T ++ drop (length (tree_of T)) tree)
 
 -- Writing text: 1, 2 to 9, 10, 11; "it returns the bytes used and the next line. Later bytes of the buffer keep their contents"
-abbrev pub text_from : Text → HandedBack
-text_from (TextRefused n) = turned_down n
-text_from (Written n j) = taken (n ∷ j ∷ [])
+abbrev pub text_from : Result Lines Unmet → HandedBack
+text_from r = handed (λ l. l.used ∷ l.next ∷ []) r
 
 abbrev pub questions_of_line : (line : ℕ) → Table → List (ℕ × Bool)
 questions_of_line line T = (11, met11 T line) ∷ []

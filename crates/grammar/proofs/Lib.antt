@@ -1,7 +1,6 @@
 -- Computed facts, then laws by topic, then the functions.
 pub mod Computed
 pub mod Bytes
-pub mod Scans
 pub mod Names
 pub mod Lines
 pub mod Files

@@ -7,5 +7,5 @@ pub mod Name
 pub mod Line
 -- the questions put to a whole file
 pub mod File
--- the part of a file where a field stands
+-- inside the reader: the forms of field as the code names them
 pub mod Field

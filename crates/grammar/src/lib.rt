@@ -1,273 +1,159 @@
-// The form of a table file: names, lists, fields and lines, and questions 2 and 3. A part is two places of the file, as in crate `lines`.
+// The form of a table file: names, lists, fields and lines, and questions 2 and 3. A part is a slice of the file, as in crate `lines`.
 // Inside the reader: crates `outline` and `rows` call what is lent here, and other crates use the contracts of `table`.
 #![tactic(auto)]
 
-ghost use Rattle.std.specs.Prelude.{◌≡◌, ◌≤◌, length};
-ghost use Rattle.std.proofs.Math.Seq.{slice};
-ghost use Rattle.lists.specs.List.{all};
+ghost use Rattle.std.specs.Prelude.{◌≡◌, length};
 ghost use Rattle.lines.specs.Parts.{split, lines_of};
-ghost use Rattle.grammar.specs.Byte.{lower, of_name, of_depth, comma, tab};
+ghost use Rattle.grammar.specs.Byte.{of_name, tab};
 ghost use Rattle.grammar.specs.Name.{is_name, is_hyphen, is_list, names_in};
-ghost use Rattle.grammar.specs.Line.{is_depth, has_form, formed, is_line, begins};
+ghost use Rattle.grammar.specs.Line.{is_depth, has_form, formed, is_line, begins, field};
 ghost use Rattle.grammar.specs.File.{met2, met3};
-ghost use Rattle.grammar.specs.Field.{At, form_of, forms_of};
+ghost use Rattle.grammar.specs.Field.{form_of, forms_of};
 
-use lines::cut;
+use Form::{Depth, List, Name};
+use lines::{next_line, split_first};
 
-// A lowercase letter.
-fn is_lower(b: u8) -> bool
-    ensures { result ≡ lower b }
-{
-    match b {
-        b'a'..=b'z' => true,
-        _ => false,
-    }
+// What a field has to be.
+#[derive(Clone, Copy)]
+enum Form {
+    Name,
+    List,
+    Depth,
 }
 
 // A lowercase letter, a digit or a hyphen.
+#[tactic(auto, using(crate::proofs::Bytes::of_name_is, std::proofs::lemmas::Bool::Decides::nat_tests))]
 fn is_of_name(b: u8) -> bool
     ensures { result ≡ of_name b }
 {
-    match b {
-        b'a'..=b'z' => true,
-        b'0'..=b'9' => true,
-        b'-' => true,
+    matches!(b, b'a'..=b'z' | b'0'..=b'9' | b'-')
+}
+
+fn is_name(field: &[u8]) -> bool
+    ensures { result ≡ is_name field.now }
+{
+    match field {
+        [b'a'..=b'z', rest @ ..] => rest.len() <= 11 && rest.iter().all(|b| is_of_name(*b)),
         _ => false,
     }
 }
 
-// A digit from 1 to 8.
-fn is_of_depth(b: u8) -> bool
-    ensures { result ≡ of_depth b }
+#[tactic(auto, using(crate::proofs::Bytes::hyphen_is, std::proofs::lemmas::Bool::Decides::nat_tests))]
+pub fn is_hyphen(field: &[u8]) -> bool
+    ensures { result ≡ is_hyphen field.now }
 {
-    match b {
-        b'1'..=b'8' => true,
-        _ => false,
+    matches!(field, b"-")
+}
+
+fn is_list(field: &[u8]) -> bool
+    ensures { result ≡ is_list field.now }
+{
+    is_hyphen(field) || field.split(|b| *b == b',').all(is_name)
+}
+
+#[tactic(auto, using(crate::proofs::Bytes::depth_is, std::proofs::lemmas::Bool::Decides::nat_tests))]
+fn is_depth(field: &[u8]) -> bool
+    ensures { result ≡ is_depth field.now }
+{
+    matches!(field, [b'1'..=b'8'])
+}
+
+#[tactic(auto, unfolding(crate::specs::Field::form_of, crate::specs::Line::has_form))]
+fn has_form(field: &[u8], form: Form) -> bool
+    ensures { result ≡ has_form (form_of form) field.now }
+{
+    match form {
+        Name => is_name(field),
+        List => is_list(field),
+        Depth => is_depth(field),
     }
 }
 
-// Are the bytes from a up to b all of names?
-fn all_of_name(s: &[u8], a: usize, b: usize) -> bool
-    requires { (a ≤ b) × (b ≤ length s.now) }
-    ensures { result ≡ all of_name (slice a b s.now) }
+// Are the fields that tabs part of these forms?
+fn are_fields(fields: &[u8], forms: &[Form]) -> bool
+    ensures { result ≡ formed (split tab fields.now) (forms_of forms.now) }
 {
-    let mut i = a;
-    while i < b {
-        if !is_of_name(s[i]) {
+    let mut left = Some(fields);
+    for form in forms {
+        let Some(fields) = left else {
+            return false;
+        };
+        let (field, behind) = split_first(fields, b'\t');
+        if !has_form(field, *form) {
             return false;
         }
-        i += 1;
+        left = behind;
     }
-    true
+    left.is_none()
 }
 
-fn is_name(s: &[u8], a: usize, b: usize) -> bool
-    requires { (a ≤ b) × (b ≤ length s.now) }
-    ensures { result ≡ is_name (slice a b s.now) }
+// Question 3 for a line.
+fn is_line(line: &[u8]) -> bool
+    ensures { result ≡ is_line line.now }
 {
-    if a == b {
+    let (letter, fields) = split_first(line, b'\t');
+    let Some(fields) = fields else {
         return false;
-    }
-    if b - a > 12 {
+    };
+    let [first] = letter else {
         return false;
-    }
-    if !is_lower(s[a]) {
-        return false;
-    }
-    let i = a + 1;
-    all_of_name(s, i, b)
-}
-
-// Are the parts that commas part, from a up to b, all names?
-fn all_names(s: &[u8], a: usize, b: usize) -> bool
-    requires { (a ≤ b) × (b ≤ length s.now) }
-    ensures { result ≡ all is_name (split comma (slice a b s.now)) }
-{
-    let mut i = a;
-    loop {
-        let e = cut(s, i, b, b',');
-        if !is_name(s, i, e) {
-            return false;
-        }
-        if e == b {
-            return true;
-        }
-        i = e + 1;
-    }
-}
-
-pub fn is_hyphen(s: &[u8], a: usize, b: usize) -> bool
-    requires { (a ≤ b) × (b ≤ length s.now) }
-    ensures { result ≡ is_hyphen (slice a b s.now) }
-{
-    if b - a != 1 {
-        return false;
-    }
-    s[a] == b'-'
-}
-
-fn is_list(s: &[u8], a: usize, b: usize) -> bool
-    requires { (a ≤ b) × (b ≤ length s.now) }
-    ensures { result ≡ is_list (slice a b s.now) }
-{
-    if is_hyphen(s, a, b) {
-        return true;
-    }
-    all_names(s, a, b)
-}
-
-fn is_depth(s: &[u8], a: usize, b: usize) -> bool
-    requires { (a ≤ b) × (b ≤ length s.now) }
-    ensures { result ≡ is_depth (slice a b s.now) }
-{
-    if b - a != 1 {
-        return false;
-    }
-    is_of_depth(s[a])
-}
-
-// Has the part the form that k stands for: n for a name, l for a list, any other byte for the depth?
-fn has_form(s: &[u8], a: usize, b: usize, k: u8) -> bool
-    requires { (a ≤ b) × (b ≤ length s.now) }
-    ensures { result ≡ has_form (form_of k) (slice a b s.now) }
-{
-    match k {
-        b'n' => is_name(s, a, b),
-        b'l' => is_list(s, a, b),
-        _ => is_depth(s, a, b),
-    }
-}
-
-// Are the fields that tabs part, from a up to b, of these forms?
-fn are_fields(s: &[u8], a: usize, b: usize, forms: &[u8]) -> bool
-    requires { (a ≤ b) × (b ≤ length s.now) }
-    ensures { result ≡ formed (split tab (slice a b s.now)) (forms_of forms.now) }
-{
-    let mut i = a;
-    let mut j = 0;
-    while j < forms.len() {
-        let e = cut(s, i, b, b'\t');
-        if !has_form(s, i, e, forms[j]) {
-            return false;
-        }
-        j += 1;
-        if e == b {
-            return j == forms.len();
-        }
-        i = e + 1;
-    }
-    false
-}
-
-// Question 3 for the line from a up to b.
-fn is_line(s: &[u8], a: usize, b: usize) -> bool
-    requires { (a ≤ b) × (b ≤ length s.now) }
-    ensures { result ≡ is_line (slice a b s.now) }
-{
-    let e = cut(s, a, b, b'\t');
-    if e - a != 1 {
-        return false;
-    }
-    if e == b {
-        return false;
-    }
-    let i = e + 1;
-    match s[a] {
-        b'F' => are_fields(s, i, b, b"n"),
-        b'S' => are_fields(s, i, b, b"nlll"),
-        b'T' => are_fields(s, i, b, b"n"),
-        b'M' => are_fields(s, i, b, b"nl"),
-        b'I' => are_fields(s, i, b, b"l"),
-        b'R' => are_fields(s, i, b, b"nd"),
+    };
+    match *first {
+        b'F' => are_fields(fields, &[Name]),
+        b'S' => are_fields(fields, &[Name, List, List, List]),
+        b'T' => are_fields(fields, &[Name]),
+        b'M' => are_fields(fields, &[Name, List]),
+        b'I' => are_fields(fields, &[List]),
+        b'R' => are_fields(fields, &[Name, Depth]),
         _ => false,
     }
 }
 
 // Question 3.
-pub fn are_lines(s: &[u8]) -> bool
-    ensures { result ≡ met3 (lines_of s.now) }
+#[tactic(auto, using(crate::proofs::Files::met3_is))]
+pub fn are_lines(file: &[u8]) -> bool
+    ensures { result ≡ met3 (lines_of file.now) }
 {
-    let n = s.len();
-    let mut a = 0;
-    while a < n {
-        let b = cut(s, a, n, b'\n');
-        if b == n {
-            return true;
-        }
-        if !is_line(s, a, b) {
+    let mut text = file;
+    while let Some((line, behind)) = next_line(text) {
+        if !is_line(line) {
             return false;
         }
-        a = b + 1;
+        text = behind;
     }
     true
 }
 
 // Question 2.
-pub fn fits_and_ends(s: &[u8]) -> bool
-    ensures { result ≡ met2 s.now }
+#[tactic(auto, using(crate::proofs::Files::met2_is, std::proofs::lemmas::Bool::Decides::nat_tests))]
+pub fn fits_and_ends(file: &[u8]) -> bool
+    ensures { result ≡ met2 file.now }
 {
-    let n = s.len();
-    if n > 65536 {
-        return false;
-    }
-    if n == 0 {
-        return false;
-    }
-    s[n - 1] == b'\n'
+    file.len() <= 65536 && file.ends_with(b"\n")
 }
 
-// Does the line from a up to b begin with the byte c?
-pub fn line_begins(s: &[u8], a: usize, b: usize, c: u8) -> bool
-    requires { (a ≤ b) × (b ≤ length s.now) }
-    ensures { result ≡ begins c (slice a b s.now) }
+// Does the line begin with the byte c?
+#[tactic(auto, using(crate::proofs::Files::begins_is))]
+pub fn line_begins(line: &[u8], c: u8) -> bool
+    ensures { result ≡ begins c line.now }
 {
-    if a == b {
-        return false;
-    }
-    s[a] == c
+    line.starts_with(&[c])
 }
 
-#[derive(Clone, Copy)]
-pub struct Field {
-    pub from: usize,
-    pub to: usize,
+// Field k of the line; empty, where the line has none.
+pub fn field_at(line: &[u8], k: usize) -> &[u8]
+    ensures { result.now ≡ field line.now k }
+{
+    line.split(|b| *b == b'\t').nth(k).unwrap_or(&[])
 }
 
-// Field k of the line from a up to b; an empty part, where the line has none.
-pub fn field_at(s: &[u8], a: usize, b: usize, k: usize) -> Field
-    requires { (a ≤ b) × (b ≤ length s.now) }
-    ensures { At s.now a b k result.from result.to }
+// How many names the list has.
+pub fn count_names(list: &[u8]) -> usize
+    ensures { result ≡ length (names_in list.now) }
 {
-    let mut i = a;
-    let mut j = 0;
-    while j < k {
-        let e = cut(s, i, b, b'\t');
-        if e == b {
-            return Field { from: b, to: b };
-        }
-        i = e + 1;
-        j += 1;
-    }
-    let e = cut(s, i, b, b'\t');
-    Field { from: i, to: e }
-}
-
-// How many names the list from a up to b has.
-pub fn count_names(s: &[u8], a: usize, b: usize) -> usize
-    requires { (a ≤ b) × (b ≤ length s.now) }
-    ensures { result ≡ length (names_in (slice a b s.now)) }
-{
-    if is_hyphen(s, a, b) {
-        return 0;
-    }
-    let mut i = a;
-    let mut k = 0;
-    loop {
-        let e = cut(s, i, b, b',');
-        if e == b {
-            return k + 1;
-        }
-        i = e + 1;
-        k += 1;
+    if is_hyphen(list) {
+        0
+    } else {
+        list.split(|b| *b == b',').count()
     }
 }

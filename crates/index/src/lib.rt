@@ -8,7 +8,7 @@ ghost use Rattle.index.specs.Index.{nodes_in, slots_in, first_fact_in, node_word
 pub fn word(ix: &[u64], i: usize) -> usize
     ensures { result ≡ get_or ix.now i 0 }
 {
-    if i < ix.len() { ix[i] as usize } else { 0 }
+    ix.get(i).copied().unwrap_or(0) as usize
 }
 
 // How many nodes and slots there are, and the first fact variable.

@@ -24,7 +24,7 @@ use Rattle.places.specs.Lookup.{no_record, record_at, first_var}
 use Rattle.places.proofs.Lookup.{nodes_length}
 use Rattle.places.proofs.Small.{sizes_at, records_children}
 use Rattle.index.specs.Index.{source}
-use Rattle.indexing.specs.Stands.{AtNode, node, child_words}
+use Rattle.indexing.specs.Stands.{AtNode, node, child_numbers, child_words}
 use Rattle.indexing.proofs.Nodes.{inside, node_is, child_count, children_word, parent_word}
 
 -- the numbers of the first k children of node u among the records from node n on
@@ -206,16 +206,31 @@ module _ {T : Table} {ws : List ℕ} {n : ℕ} (t : AtNode T ws n) where
     found_end : s + w ≤ a → a ≡ s + length (node T n).children
     found_end h = omega (arith, h, e, children_word t, u.high)
 
-    -- behind the last child there is room for the zeros, and they are written
-    pub found_rest : s + w ≤ a → (a ≤ s + 8) × (s + 8 ≤ length o)
-    found_rest h = (omega (arith, found_end h, eight), omega (arith, u.room, u.same))
-
-    pub found_all : {o' : List ℕ} {r : ℕ} → s + w ≤ a → Wrote o a (replicate (s + 8 - a) 0) o' r → Wrote o₀ s (child_words (node T n)) o' r
-    found_all {o'} {r} h v =
+    -- the last child is written, be it that so many are or that no node is left
+    pub found_all : s + w ≤ a → Wrote o₀ s (child_numbers (node T n)) o a
+    found_all h =
         let z : s + length (node T n).children - a ≡ 0 = omega (arith, found_end h) in
-        let x : u.found ≡ map number_of (node T n).children =
-        sym (append-nil u.found) ∙ ap (λ (k : ℕ). u.found ++ numbers n k c (drop c (records T))) (sym z) ∙ u.rest in
-        let y : s + 8 - a ≡ 8 - length (node T n).children = omega (arith, found_end h) in
-        wrote_same (ap (λ (l : List ℕ). l ++ replicate (s + 8 - a) 0) x ∙ ap (λ (k : ℕ). map number_of (node T n).children ++ replicate k 0) y
-        ∙ eight_words (node T n) eight)
-        (wrote_append (omega (arith, u.room)) u.text v)
+        wrote_same (sym (append-nil u.found) ∙ ap (λ (k : ℕ). u.found ++ numbers n k c (drop c (records T))) (sym z) ∙ u.rest) u.text
+
+    pub found_most : a ≤ s + w
+    found_most = omega (arith, u.high, e, children_word t)
+
+    pub found_past : length (source T).nodes ≤ c → s + w ≤ a
+    found_past l = go (le_or_lt (s + w) a)
+      where
+        go : (s + w ≤ a) ⊎ (a < s + w) → s + w ≤ a
+        go (inl h) = h
+        go (inr h) = absurd (omega (arith, l, (found_there h).inside))
+
+  -- behind the last child there is room for the zeros, and they are written
+  module _ {o₀ o : List ℕ} {s a : ℕ} (u : Wrote o₀ s (child_numbers (node T n)) o a) where
+    many : a ≡ s + length (node T n).children
+    many = omega (arith, u.end, length-map (node T n).children number_of)
+
+    pub zeros_rest : s + 8 ≤ length o₀ → (a ≤ s + 8) × (s + 8 ≤ length o)
+    zeros_rest h = (omega (arith, many, eight), omega (arith, wrote_length u (omega (arith, many, eight, u.end)), h))
+
+    pub children_put : {o' : List ℕ} {r : ℕ} → s + 8 ≤ length o₀ → Wrote o a (replicate (s + 8 - a) 0) o' r → Wrote o₀ s (child_words (node T n)) o' r
+    children_put {o'} {r} h v =
+        let y : s + 8 - a ≡ 8 - length (node T n).children = omega (arith, many) in
+        wrote_same (ap (λ (k : ℕ). child_numbers (node T n) ++ replicate k 0) y ∙ eight_words (node T n) eight) (wrote_append (omega (arith, h)) u v)

@@ -8,3 +8,5 @@ pub mod Children
 pub mod Whole
 -- small tables computed
 pub mod Computed
+-- what the structs say of their values
+pub mod Structs

@@ -3,8 +3,7 @@
 use mathlib.Core.Path.{◌≡◌, refl, sym, ap, ◌∙◌}
 use mathlib.Core.Bool.{Bool, true, false, not, cond}
 use mathlib.Core.List.{List, [], ◌∷◌, ◌++◌, append-nil}
-use mathlib.Core.Logic.{⊎_elim}
-use Prim.Native.Nat.{ℕ, zero, suc, ◌+◌, ◌-◌, ◌/◌, ◌≤◌, ◌<◌}
+use Prim.Native.Nat.{ℕ, zero, suc, ◌+◌, ◌-◌, ◌≤◌, ◌<◌}
 use native.Mathlib.Omega.{arith}
 use lib.ListN.{length, get_or, take, drop, replicate, length-append, length-map, replicate-append-replicate, take-append-drop, drop_of_length-le}
 use lib.Seq.{take_all, take-suc, drop-cons}
@@ -12,7 +11,6 @@ use Rattle.lists.specs.List.{cons_if, filter, concat_map, from, up_to, has}
 use Rattle.lists.specs.Written.{Wrote}
 use Rattle.lists.proofs.Every.{concat_map_append}
 use Rattle.lists.proofs.Number.{length_from}
-use Rattle.lists.proofs.Order.{le_or_lt}
 use Rattle.lists.proofs.Place.{filter_split}
 use Rattle.lists.proofs.Written.{wrote_none, wrote_append, wrote_same, wrote_length}
 use Rattle.bitset.specs.Set.{contains}
@@ -25,15 +23,10 @@ use Rattle.places.proofs.Lookup.{nodes_length}
 use Rattle.tree.specs.Visit.{members_in}
 use Rattle.tree.proofs.Methods.{word_has}
 use Rattle.index.specs.Index.{node_words, slot_nodes, source}
-use Rattle.indexing.specs.Stands.{Stands, AtNode, node}
-use Rattle.indexing.proofs.Nodes.{node_count_lem, first_most, first_on, first_is}
+use Rattle.indexing.specs.Stands.{AtNode, node}
+use Rattle.indexing.proofs.Nodes.{first_most, first_on, first_is}
 
 -- Single writes --------------------------------------------------------------------------------------------------------------------
-pub put_three : {o o₁ o₂ o₃ : List ℕ} {at r₁ r₂ r₃ a b c : ℕ} → at + 3 ≤ length o → Wrote o at (a ∷ []) o₁ r₁ → Wrote o₁ r₁ (b ∷ []) o₂ r₂
-    → Wrote o₂ r₂ (c ∷ []) o₃ r₃
-    → Wrote o at (a ∷ b ∷ c ∷ []) o₃ r₃
-put_three h u v w = wrote_append (omega arith) (wrote_append (omega arith) u v) w
-
 pub if_yes : {o o' : List ℕ} {at r x : ℕ} {t : Bool} → t ≡ true → Wrote o at (x ∷ []) o' r → Wrote o at (cons_if t x []) o' r
 if_yes {o} {o'} {at} {r} {x} {t} e w = wrote_same (ap (λ (b : Bool). cons_if b x []) (sym e)) w
 
@@ -117,9 +110,6 @@ length_none (x ∷ l) e = absurd (omega arith)
 
 -- as many are written as there are: nothing is left to pick
 module _ {p : ℕ → Bool} {k : ℕ} {o₀ o : List ℕ} {s a m e : ℕ} (u : Picked p k o₀ s o a m) (q : e ≡ s + length (filter p (up_to k))) where
-  pub picked_left : a < e → m < k
-  picked_left h = ⊎_elim (λ l. absurd (omega (arith, q, (picked_all u l).end))) (λ l. l) (le_or_lt k m)
-
   pub picked_full : e ≤ a → Wrote o₀ s (filter p (up_to k)) o a
   picked_full h =
       let z : m + (k - m) ≡ k = omega (arith, u.at) in
@@ -166,9 +156,9 @@ pub slots_none : (T : Table) (o : List ℕ) (s : ℕ) → s + length (slot_nodes
     → Picked (is_slot T) (length (source T).nodes) o s o s 0
 slots_none T o s h = picked_none (is_slot T) (length (source T).nodes) o s (omega (arith, h, ap length (slots_picked T)))
 
-pub slots_all : {T : Table} {ws o₀ o : List ℕ} {s a n : ℕ} → Stands T ws → Picked (is_slot T) (length (source T).nodes) o₀ s o a n → length ws / 5 ≤ n
+pub slots_all : (T : Table) {o₀ o : List ℕ} {s a n : ℕ} → Picked (is_slot T) (length (source T).nodes) o₀ s o a n → length (source T).nodes ≤ n
     → Wrote o₀ s (slot_nodes T 0 (records T)) o a
-slots_all {T} {ws} {o₀} {o} {s} {a} {n} t u h = wrote_same (sym (slots_picked T)) (picked_all u (omega (arith, h, node_count_lem t)))
+slots_all T {o₀} {o} {s} {a} {n} u h = wrote_same (sym (slots_picked T)) (picked_all u h)
 
 -- What f gives for each of some things -----------------------------------------------------------------------------------------------
 module _ {A : Type 0} where

@@ -99,13 +99,13 @@ module _ {T : Table} {ws : List ℕ} (s : Stands T ws) where
   -- The whole
   module _ {c : Count} (k : Counted T c) where
     nodes_are : c.nodes ≡ length (source T).nodes
-    nodes_are = omega (arith, k.nodes, s.accepted.few_nodes, nodes_count T)
+    nodes_are = omega (arith, k.nodes, nodes_count T)
 
     slots_are : c.slots ≡ length (source T).slots
-    slots_are = k.slots s.accepted.few_nodes ∙ ap length (sym (slots_records T))
+    slots_are = k.slots ∙ ap length (sym (slots_records T))
 
     facts_are : c.variables + 1 ≡ (source T).facts
-    facts_are = omega (arith, k.variables s.accepted.few_nodes, vars_records T)
+    facts_are = omega (arith, k.variables, vars_records T)
 
     pub index_put : {o o₁ o₂ o₃ o₄ : List ℕ} {r₁ r₂ r₃ r₄ : ℕ}
         → Wrote o 0 (c.nodes ∷ c.slots ∷ (c.variables + 1) ∷ []) o₁ r₁ → Wrote o₁ r₁ (concat_map node_words (source T).nodes) o₂ r₂

@@ -31,5 +31,8 @@ set_words b N = b ∷ word_of N.steps ∷ word_of N.jobs ∷ []
 abbrev pub count_words : Node → List ℕ
 count_words N = length N.steps ∷ length N.jobs ∷ length N.methods ∷ []
 
+abbrev pub child_numbers : Node → List ℕ
+child_numbers N = map (λ C. C.node) N.children
+
 abbrev pub child_words : Node → List ℕ
 child_words N = map (λ y. (child_at N y).node) (up_to 8)

@@ -1,5 +1,4 @@
 -- How scans follow the definitions: laws, then the functions.
-pub mod Slice
 pub mod Cutting
-pub mod Lines
 pub mod Same
+pub mod Parted

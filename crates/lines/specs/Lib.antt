@@ -6,5 +6,5 @@ pub mod Bytes
 pub mod Parts
 -- a part by its place
 pub mod Part
--- inside the readers: where the part that begins at a place ends
+-- inside the readers: where the first byte c stands
 pub mod Cut

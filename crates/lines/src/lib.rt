@@ -1,50 +1,29 @@
-// Bytes, parts and lines of a file, as every reader of a file needs them. A part is two places a and b, and means the bytes from a up
-// to, not including, b. Nothing here knows what the file is.
+// Bytes, parts and lines of a file, as every reader of a file needs them. A part is a slice of the file. Nothing here knows what the file is.
 #![tactic(auto)]
 
-ghost use Rattle.std.specs.Prelude.{◌≡◌, ◌+◌, ◌≤◌, length};
-ghost use Rattle.std.proofs.Math.Seq.{slice};
-ghost use Rattle.lines.specs.Bytes.{same_bytes};
-ghost use Rattle.lines.specs.Cut.{Cut};
+ghost use Rattle.std.specs.Prelude.{◌≡◌, [], ◌∷◌, ◌++◌, ◌+◌, length, MatchOption, IfSome};
+ghost use Rattle.lines.specs.Bytes.{LF};
+ghost use Rattle.lines.specs.Parts.{split, ended};
 
-// The place of the first byte c from a on and before b, or b.
-pub fn cut(s: &[u8], a: usize, b: usize, c: u8) -> usize
-    requires { (a ≤ b) × (b ≤ length s.now) }
-    ensures { Cut c s.now a b result }
+// The first of the parts that c parts, and what stands behind that c: None where the first part is the whole.
+pub fn split_first(part: &[u8], c: u8) -> (&[u8], Option<&[u8]>)
+    ensures parts { MatchOption result.1 (split c part.now ≡ result.0.now ∷ []) (λ rest. split c part.now ≡ result.0.now ∷ split c rest.now) }
+    ensures bytes { MatchOption result.1 (result.0.now ≡ part.now) (λ rest. part.now ≡ result.0.now ++ c ∷ rest.now) }
+    ensures sizes { IfSome result.1 (λ rest. length result.0.now + 1 + length rest.now ≡ length part.now) }
 {
-    let mut i = a;
-    while i < b {
-        if s[i] == c {
-            return i;
-        }
-        i += 1;
+    match part.iter().position(|b| *b == c) {
+        Some(end) => (&part[..end], Some(&part[end + 1..])),
+        None => (part, None),
     }
-    i
 }
 
-// Are the bytes from a up to b those from c up to d?
-pub fn is_same(s: &[u8], a: usize, b: usize, c: usize, d: usize) -> bool
-    requires { (a ≤ b) × (b ≤ length s.now) × (c ≤ d) × (d ≤ length s.now) }
-    ensures { result ≡ same_bytes (slice a b s.now) (slice c d s.now) }
+// The first line, without its LF, and the text behind it: None where no LF ends a line. A text is walked by `while let` over this one:
+// the recursion of `ended` is then the loop, where an iterator of its own would need a law of its runs in every caller.
+pub fn next_line(text: &[u8]) -> Option<(&[u8], &[u8])>
+    ensures lines { MatchOption result (ended LF text.now ≡ []) (λ x. ended LF text.now ≡ x.0.now ∷ ended LF x.1.now) }
+    ensures bytes { IfSome result (λ x. text.now ≡ x.0.now ++ LF ∷ x.1.now) }
+    ensures sizes { IfSome result (λ x. length x.0.now + 1 + length x.1.now ≡ length text.now) }
 {
-    if b - a != d - c {
-        return false;
-    }
-    if a == b {
-        return true;
-    }
-    // Names are often alike but for their ends, as numbered ones are.
-    if s[b - 1] != s[d - 1] {
-        return false;
-    }
-    let mut i = a;
-    let mut j = c;
-    while i < b {
-        if s[i] != s[j] {
-            return false;
-        }
-        i += 1;
-        j += 1;
-    }
-    true
+    let (line, behind) = split_first(text, b'\n');
+    Some((line, behind?))
 }

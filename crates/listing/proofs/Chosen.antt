@@ -51,12 +51,11 @@ jobs_elem (j ∷ js) zero h = refl
 jobs_elem (j ∷ js) (suc i) h = jobs_elem js i (omega arith)
 
 -- steps, then jobs
-pub step_elem : (ss js : List ℕ) (i : ℕ) → i < length ss → get_elem? (map step ss ++ map job js) i ≡ some (step (get_or (ss ++ js) i 0))
+pub step_elem : (ss js : List ℕ) (i : ℕ) → i < length ss → get_elem? (map step ss ++ map job js) i ≡ some (step (get_or ss i 0))
 step_elem [] js i h = absurd (omega arith)
 step_elem (s ∷ ss) js zero h = refl
 step_elem (s ∷ ss) js (suc i) h = step_elem ss js i (omega arith)
 
-pub job_elem : (ss js : List ℕ) (i : ℕ) → length ss ≤ i → i < length ss + length js → get_elem? (map step ss ++ map job js) i ≡ some (job (get_or (ss ++ js) i 0))
-job_elem [] js i l h = jobs_elem js i (omega arith)
-job_elem (s ∷ ss) js zero l h = absurd (omega arith)
-job_elem (s ∷ ss) js (suc i) l h = job_elem ss js i (omega arith) (omega arith)
+pub job_elem : (ss js : List ℕ) (i : ℕ) → i < length js → get_elem? (map step ss ++ map job js) (length ss + i) ≡ some (job (get_or js i 0))
+job_elem [] js i h = let z : 0 + i ≡ i = omega arith in rw z (jobs_elem js i h)
+job_elem (s ∷ ss) js i h = let z : suc (length ss) + i ≡ suc (length ss + i) = omega arith in rw z (job_elem ss js i h)

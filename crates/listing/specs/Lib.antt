@@ -4,3 +4,4 @@
 pub mod Listing
 -- inside: how the code makes it
 pub mod Walk
+pub mod Views

@@ -1,6 +1,7 @@
 -- Inside the listing, nothing to believe: its rows node by node, as the code reads them from values. For a model's values they are those of
 -- the tree that it gives. Assumes nothing.
 use Rattle.std.specs.Prelude.{◌≡◌, List, [], ◌∷◌, ℕ, suc, ◌+◌, ◌≤◌, ◌<◌, length}
+use Rattle.std.specs.Coded.{le_prop, Coded-set, coded_ℕ, coded_list}
 use Rattle.std.proofs.Math.Option.{Option, none, some}
 use Rattle.lists.specs.List.{Every, concat_map, find_index, from, up_to}
 use Rattle.lists.specs.Written.{Wrote}
@@ -8,12 +9,14 @@ use Rattle.planning.specs.Table.{Task, step, job, Table}
 use Rattle.planning.specs.Record.{records}
 use Rattle.planning.specs.Variable.{variables}
 use Rattle.planning.specs.Model.{Valuation, value, truths_in, chosen}
-use Rattle.table.specs.Layout.{name_parts_in}
+use Rattle.table.specs.Layout.{table_in, name_parts_in}
 use Rattle.tree.specs.Words.{tree_words}
 use Rattle.places.specs.Flat.{Node, tasks_at, method_vars_at}
+use Rattle.places.specs.ClausePlace.{Source}
 use Rattle.places.specs.Lookup.{record_at}
 use Rattle.index.specs.Index.{source}
-use Rattle.shape.specs.Shape.{node, Indexed}
+use Rattle.shape.specs.Shape.{node}
+use Rattle.shape.specs.Once.{Every-prop}
 use Rattle.listing.specs.Listing.{Names, shown_names, Row, job_row, step_row, row_lines}
 
 -- "A name is 1 to 12 characters", as the reader promises
@@ -56,18 +59,26 @@ walked T N v = row_lines N 0 (rows_to T v (length (source T).nodes))
 abbrev pub value_of : List ℕ → Valuation
 value_of values = value (truths_in values)
 
--- a table with its index and its tree, a value for each variable, and names from the table that was read
-pub record Listable (ws file : List ℕ) (T : Table) (ix tree values : List ℕ) : Type 0 where
-  pub indexed : Indexed T ix
-  pub words : tree ≡ tree_words (records T)
-  pub long : variables T ≤ length values
+-- of a table that was read from a file, a tree, a value for each variable, and names
+pub record Listable (ws file tree values : List ℕ) : Type 0 where
+  pub words : tree ≡ tree_words (records (table_in ws))
+  pub long : variables (table_in ws) ≤ length values
   pub short : ShortNames (shown_names file (name_parts_in ws))
 
--- node n of it, with room for a line in o from place at on, and k steps done before
-pub record Ready (ws file : List ℕ) (T : Table) (ix : List ℕ) (n : ℕ) (o : List ℕ) (at k : ℕ) : Type 0 where
-  pub indexed : Indexed T ix
-  pub short : ShortNames (shown_names file (name_parts_in ws))
-  pub there : n < length (source T).nodes
+-- that can be shown in one way only: so a value may carry it
+pub Listable-prop : (ws file tree values : List ℕ) → IsProp (Listable ws file tree values)
+Listable-prop ws file tree values p q = λ i. record {
+  words = Coded-set (coded_list coded_ℕ) tree (tree_words (records (table_in ws))) p.words q.words i;
+  long = le_prop p.long q.long i;
+  short = record {
+    steps = Every-prop (λ (n : List ℕ). length n ≤ 12) (λ n. le_prop) (shown_names file (name_parts_in ws)).steps p.short.steps q.short.steps i;
+    jobs = Every-prop (λ (n : List ℕ). length n ≤ 12) (λ n. le_prop) (shown_names file (name_parts_in ws)).jobs p.short.jobs q.short.jobs i;
+  };
+}
+
+-- there is a node n, with room for a line in o from place at on, and k steps done before
+pub record Ready (S : Source) (n : ℕ) (o : List ℕ) (at k : ℕ) : Type 0 where
+  pub there : n < length S.nodes
   pub room : at + 24 ≤ length o
   pub few : k < 1024
 

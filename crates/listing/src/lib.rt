@@ -1,15 +1,27 @@
-// The listing of a procedure, read from values node by node. `ws` is the table that was read from `file`, where the names stand, `ix` its
-// index and `tree` its records. Each `put_` function writes from a place on and leaves every other byte as it was.
+// The listing of a procedure, read from values node by node. Each `put_` function writes from a place on and leaves every other byte as it
+// was; the place travels beside the bytes, as in crate `writer`.
 #![tactic(auto)]
 
-ghost use Rattle.std.specs.Prelude.{◌≡◌, [], ◌∷◌, ◌++◌, ◌+◌, ◌≤◌, ◌<◌, length, get_or};
+ghost use Rattle.std.specs.Prelude.{◌≡◌, [], ◌∷◌, ◌++◌, ◌+◌, ◌≤◌, ◌<◌, length, MatchOption};
 ghost use Rattle.lists.specs.Written.{Wrote};
 ghost use Rattle.planning.specs.Text.{decimal};
-ghost use Rattle.table.specs.Layout.{name_parts_in, table_in};
-ghost use Rattle.places.specs.ClausePlace.{tasks_n};
-ghost use Rattle.shape.specs.Shape.{node, InNode};
+ghost use Rattle.table.specs.Layout.{name_parts_in};
+ghost use Rattle.shape.specs.Views.{table_of};
 ghost use Rattle.listing.specs.Listing.{shown_names, job_line, step_line};
-ghost use Rattle.listing.specs.Walk.{first_true, step_rows, job_rows, rows_at, walked, value_of, Listable, Ready, WroteRows};
+ghost use Rattle.listing.specs.Walk.{first_true, walked, value_of, Listable, Listable-prop};
+
+use shape::Encoded;
+
+// What a listing is read from: an accepted table with its index, the file that it was read from, where the names stand, its tree's records,
+// and a value for each variable.
+#[derive(Drop)]
+struct Lent<'a> {
+    file: &'a [u8],
+    encoded: Encoded<'a>,
+    tree: &'a [u64],
+    values: &'a [u8],
+    ghost listable: { Listable encoded.table.now file.now tree.now values.now } by { Listable-prop encoded.table.now file.now tree.now values.now },
+}
 
 // How far the listing is: the place behind what is written, and how many steps are done.
 #[derive(Clone, Copy)]
@@ -36,7 +48,7 @@ fn put_number(out: &mut [u8], at: usize, n: u64, behind: u8) -> usize
     writer::put_byte(out, a, behind)
 }
 
-fn put_name<'a, 'b>(out: &'a mut [u8], at: usize, name: &'b [u8], behind: u8) -> usize
+fn put_name(out: &mut [u8], at: usize, name: &[u8], behind: u8) -> usize
     requires { at + length name.now + 1 ≤ length out.old }
     ensures { Wrote out.old at (name.now ++ (behind ∷ [])) out.new result }
 {
@@ -45,7 +57,7 @@ fn put_name<'a, 'b>(out: &'a mut [u8], at: usize, name: &'b [u8], behind: u8) ->
 }
 
 // A job's line, and a step's: at most 24 bytes.
-fn put_job<'a, 'b>(out: &'a mut [u8], at: usize, depth: u64, name: &'b [u8], method: u64) -> usize
+fn put_job(out: &mut [u8], at: usize, depth: u64, name: &[u8], method: u64) -> usize
     requires { (at + 24 ≤ length out.old) × (depth < 10) × (length name.now ≤ 12) × (method < 1000) }
     ensures { Wrote out.old at (job_line depth name.now method) out.new result }
 {
@@ -55,7 +67,7 @@ fn put_job<'a, 'b>(out: &'a mut [u8], at: usize, depth: u64, name: &'b [u8], met
     put_number(out, c, method, b'\n')
 }
 
-fn put_step<'a, 'b>(out: &'a mut [u8], at: usize, place: u64, name: &'b [u8]) -> usize
+fn put_step(out: &mut [u8], at: usize, place: u64, name: &[u8]) -> usize
     requires { (at + 24 ≤ length out.old) × (place < 10000) × (length name.now ≤ 12) }
     ensures { Wrote out.old at (step_line place name.now) out.new result }
 {
@@ -65,138 +77,87 @@ fn put_step<'a, 'b>(out: &'a mut [u8], at: usize, place: u64, name: &'b [u8]) ->
 }
 
 // Nodes ----------------------------------------------------------------------------------------------------------------------
-// The place of the first true variable among k from variable v on; k where none is.
-fn first_true(values: &[u8], v: usize, k: usize) -> usize
+// The place of the first true variable among k from variable v on.
+fn first_true(values: &[u8], v: usize, k: usize) -> Option<usize>
     requires { (1 ≤ v) × (v + k ≤ 1 + length values.now) }
-    ensures { result ≡ first_true (value_of values.now) v k }
+    ensures { MatchOption result (first_true (value_of values.now) v k ≡ k) (λ x. (x < k) × (x ≡ first_true (value_of values.now) v k)) }
 {
-    let mut i: usize = 0;
-    while i < k {
+    for i in 0..k {
         if values[v + i - 1] == 1 {
-            return i;
+            return Some(i);
         }
-        i += 1;
     }
-    k
+    None
 }
 
-// What variable x of node n stands for: a step or a job, by its number.
-fn task_at(ws: &[u64], ix: &[u64], n: usize, x: usize) -> usize
-    requires { InNode (table_in ws.now) ix.now n × (x < tasks_n (node (table_in ws.now) n)) }
-    ensures { result ≡ get_or ((node (table_in ws.now) n).steps ++ (node (table_in ws.now) n).jobs) x 0 }
-{
-    index::meaning(ix, shape::first(ws, ix, n) + x)
-}
+impl Lent<'_> {
+    ghost use Rattle.listing.specs.Walk.{step_rows, job_rows, rows_at, Ready, WroteRows};
+    ghost use Rattle.listing.specs.Views.{source_of, node_of, names_of};
 
-// The row of step s at node n: none at an inner node, which hands the step down.
-fn put_step_row<'a, 'b, 'c>(
-    file: &'a [u8],
-    ws: &'c [u64],
-    ix: &'c [u64],
-    out: &'b mut [u8],
-    n: usize,
-    s: usize,
-    p: Reached,
-) -> Reached
-    requires { Ready ws.now file.now (table_in ws.now) ix.now n out.old p.at p.steps }
-    ensures { WroteRows (shown_names file.now (name_parts_in ws.now)) out.old p.at p.steps
-        (step_rows (node (table_in ws.now) n).jobs s) out.new result.at result.steps }
-{
-    if shape::jobs_of(ws, ix, n) > 0 {
-        return p;
+    // The row of step s at node n: none at an inner node, which hands the step down.
+    fn put_step_row(&self, out: &mut [u8], n: usize, s: usize, p: Reached) -> Reached
+        requires { Ready (source_of self.now) n out.old p.at p.steps }
+        ensures { WroteRows (names_of self.now) out.old p.at p.steps (step_rows (node_of self.now n).jobs s) out.new result.at result.steps }
+    {
+        if self.encoded.node(n).jobs() > 0 {
+            return p;
+        }
+        let steps = p.steps + 1;
+        let name = table::step_name(self.file, self.encoded.table, s);
+        let at = put_step(out, p.at, steps as u64, name);
+        Reached { at, steps }
     }
-    let place = p.steps + 1;
-    let at = put_step(out, p.at, place as u64, table::step_name(file, ws, s));
-    Reached {
-        at: at,
-        steps: place,
-    }
-}
 
-// The row of job j at node n, with the first method whose variable is true there; none where no method's is.
-fn put_job_row<'a, 'b, 'c, 'd, 'e>(
-    file: &'a [u8],
-    ws: &'c [u64],
-    ix: &'c [u64],
-    tree: &'d [u64],
-    values: &'e [u8],
-    out: &'b mut [u8],
-    n: usize,
-    j: usize,
-    p: Reached,
-) -> Reached
-    requires { Listable ws.now file.now (table_in ws.now) ix.now tree.now values.now
-        × Ready ws.now file.now (table_in ws.now) ix.now n out.old p.at p.steps × (0 < length (node (table_in ws.now) n).jobs) }
-    ensures { WroteRows (shown_names file.now (name_parts_in ws.now)) out.old p.at p.steps
-        (job_rows (table_in ws.now) (value_of values.now) n j) out.new result.at result.steps }
-{
-    let k = shape::methods_of(ws, ix, n);
-    let v = shape::first(ws, ix, n) + shape::tasks_of(ws, ix, n);
-    let x = first_true(values, v, k);
-    if x >= k {
-        return p;
+    // The row of job j at node n, with the first method whose variable is true there; none where no method's is.
+    fn put_job_row(&self, out: &mut [u8], n: usize, j: usize, p: Reached) -> Reached
+        requires { Ready (source_of self.now) n out.old p.at p.steps × (0 < length (node_of self.now n).jobs) }
+        ensures { WroteRows (names_of self.now) out.old p.at p.steps
+            (job_rows (table_of self.now.encoded) (value_of self.now.values.now) n j) out.new result.at result.steps }
+    {
+        let node = self.encoded.node(n);
+        let v = node.first() + node.tasks();
+        let Some(x) = first_true(self.values, v, node.methods()) else {
+            return p;
+        };
+        let m = node.method(x);
+        let name = table::job_name(self.file, self.encoded.table, j);
+        let at = put_job(out, p.at, self.tree[5 * n], name, m as u64);
+        Reached { at, ..p }
     }
-    let m = shape::method(ws, ix, n, x);
-    let at = put_job(
-        out,
-        p.at,
-        tree[5 * n],
-        table::job_name(file, ws, j),
-        m as u64,
-    );
-    Reached {
-        at: at,
-        steps: p.steps,
-    }
-}
 
-// The row of node n.
-fn put_node<'a, 'b, 'c, 'd, 'e>(
-    file: &'a [u8],
-    ws: &'c [u64],
-    ix: &'c [u64],
-    tree: &'d [u64],
-    values: &'e [u8],
-    out: &'b mut [u8],
-    n: usize,
-    p: Reached,
-) -> Reached
-    requires { Listable ws.now file.now (table_in ws.now) ix.now tree.now values.now
-        × Ready ws.now file.now (table_in ws.now) ix.now n out.old p.at p.steps }
-    ensures { WroteRows (shown_names file.now (name_parts_in ws.now)) out.old p.at p.steps
-        (rows_at (table_in ws.now) (value_of values.now) n) out.new result.at result.steps }
-{
-    let k = shape::tasks_of(ws, ix, n);
-    let x = first_true(values, shape::first(ws, ix, n), k);
-    if x >= k {
-        return p;
+    // The row of node n.
+    fn put_node(&self, out: &mut [u8], n: usize, p: Reached) -> Reached
+        requires { Ready (source_of self.now) n out.old p.at p.steps }
+        ensures { WroteRows (names_of self.now) out.old p.at p.steps
+            (rows_at (table_of self.now.encoded) (value_of self.now.values.now) n) out.new result.at result.steps }
+    {
+        let node = self.encoded.node(n);
+        let Some(x) = first_true(self.values, node.first(), node.tasks()) else {
+            return p;
+        };
+        let k = node.steps();
+        if x < k {
+            return self.put_step_row(out, n, node.step(x), p);
+        }
+        self.put_job_row(out, n, node.job(x - k), p)
     }
-    let i = task_at(ws, ix, n, x);
-    if x < shape::steps_of(ws, ix, n) {
-        return put_step_row(file, ws, ix, out, n, i, p);
-    }
-    put_job_row(file, ws, ix, tree, values, out, n, i, p)
 }
 
 // Writes the listing's lines for these values, node by node; the end comes back.
-pub fn write<'a, 'b, 'c, 'd, 'e>(
-    file: &'a [u8],
-    ws: &'c [u64],
-    ix: &'c [u64],
-    tree: &'d [u64],
-    values: &'e [u8],
-    out: &'b mut [u8],
-) -> usize
-    requires { Listable ws.now file.now (table_in ws.now) ix.now tree.now values.now × (24576 ≤ length out.old) }
-    ensures { Wrote out.old 0 (walked (table_in ws.now) (shown_names file.now (name_parts_in ws.now))
-        (value_of values.now)) out.new result }
+pub fn write(file: &[u8], e: &Encoded, tree: &[u64], values: &[u8], out: &mut [u8]) -> usize
+    requires { Listable e.now.table.now file.now tree.now values.now × (24576 ≤ length out.old) }
+    ensures { Wrote out.old 0 (walked (table_of e.now) (shown_names file.now (name_parts_in e.now.table.now)) (value_of values.now))
+        out.new result }
 {
-    let k = shape::nodes_in(ws, ix, 1);
+    let lent = Lent {
+        file,
+        encoded: *e,
+        tree,
+        values,
+    };
     let mut p = Reached { at: 0, steps: 0 };
-    let mut n: usize = 0;
-    while n < k {
-        p = put_node(file, ws, ix, tree, values, out, n, p);
-        n += 1;
+    for n in 0..e.nodes_in(1) {
+        p = lent.put_node(out, n, p);
     }
     p.at
 }

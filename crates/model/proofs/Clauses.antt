@@ -7,12 +7,9 @@ use mathlib.Core.Logic.{◌⊎◌, inl, inr}
 use Prim.Native.Nat.{ℕ, zero, suc, ◌+◌, ◌-◌, ◌≤◌, ◌<◌}
 use native.Mathlib.Numerals.{add-one}
 use native.Mathlib.Omega.{arith}
-use lib.ListN.{take}
 use Rattle.lists.specs.List.{from}
-use Rattle.lists.specs.Written.{Wrote}
 use Rattle.lists.proofs.Order.{le_or_lt}
 use Rattle.lists.proofs.Member.{all_append}
-use Rattle.lists.proofs.Written.{wrote_front}
 use Rattle.planning.specs.Table.{Table}
 use Rattle.planning.specs.Clause.{Clause, formula}
 use Rattle.planning.specs.Model.{Valuation, clause_true, satisfies}
@@ -29,8 +26,8 @@ use Rattle.cursor.specs.declared.Cursor.{Cursor}
 use Rattle.model.specs.Clauses.{clauses_at, clauses_from, clauses_behind, row_clause, row_size, row_clauses, RowTrue}
 
 -- a clause from the codes of its literals
-pub codes_true : (v : Valuation) (C : Clause) {o o' : List ℕ} {k : ℕ} → Wrote o 0 (map code_of C) o' k → clause_true v (clause_in (take k o')) ≡ clause_true v C
-codes_true v C w = ap (λ (l : List ℕ). clause_true v (clause_in l)) (wrote_front w) ∙ ap (clause_true v) (clause_code C)
+pub codes_true : (v : Valuation) (C : Clause) {l : List ℕ} → l ≡ map code_of C → clause_true v (clause_in l) ≡ clause_true v C
+codes_true v C e = ap (λ (l : List ℕ). clause_true v (clause_in l)) e ∙ ap (clause_true v) (clause_code C)
 
 -- A row ----------------------------------------------------------------------------------------------------------------------------
 module _ (T : Table) (c : Cursor) where

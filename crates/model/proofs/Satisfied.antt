@@ -22,33 +22,31 @@ use Rattle.places.specs.Nest.{at}
 use Rattle.places.specs.ClausePlace.{Source, both, body_task, inherited, fall, rise, child_at, width as childWidth, tasks_n, method_var, named_at, slot_at, effect_place, up_lits, literals, place_at, node_at, row_len}
 use Rattle.places.proofs.Valid.{Inside, inside}
 use Rattle.index.specs.Index.{source}
-use Rattle.shape.specs.Shape.{node, Indexed, InNode, InSlot, InGroup}
-use Rattle.shape.proofs.Groups.{part_two, node_there, slot_there, slot_letter}
-use Rattle.shape.proofs.Nodes.{child_known}
-use Rattle.clause.proofs.Facts.{facts_most}
+use Rattle.shape.specs.Shape.{node, Indexed, InNode}
+use Rattle.shape.proofs.Groups.{part_two}
+use Rattle.shape.proofs.Nodes.{child_known, few_slots}
 use Rattle.cursor.specs.Cursor.{Holds}
 use Rattle.cursor.specs.declared.Cursor.{Cursor}
-use Rattle.cursor.proofs.Moves.{letter_of}
 use Rattle.model.specs.Clauses.{RowTrue}
 use Rattle.model.proofs.Values.{each_off}
 
 -- What is there at a clause's place --------------------------------------------------------------------------------------------------
 module _ {T : Table} {ix : List ℕ} {c : Cursor} (i : Indexed T ix) (h : Holds T c) where
-  letter : InGroup T ix c.rule c.node c.group
-  letter = letter_of i h.stands
-
   within : Inside (source T) c.rule c.node c.group c.x c.y c.i
   within = inside (source T) c.rule c.node c.group c.x c.y c.i h.clause
 
-  pub node_of : c.rule ≡ 1 → InNode T ix c.node
-  node_of r = node_there letter r
+  pub node_of : c.rule ≡ 1 → c.node < length (source T).nodes
+  node_of r = rw r at h.stands.node
 
   pub child_of : c.rule ≡ 1 → c.group ≡ 6 → c.x < length (node T c.node).children
   child_of r g = rw (r, g) at within.in_x
 
   module _ (r : c.rule ≡ 3) where
-    pub slot_of : InSlot T ix c.node
-    slot_of = slot_there letter r
+    pub slot_of : c.node < length (source T).slots
+    slot_of = rw r at h.stands.node
+
+    pub slot_low : c.node < 1024
+    slot_low = omega (arith, slot_of, few_slots T i.accepted)
 
     pub step_of : c.group ≡ 0 → c.x < length (slot_at (source T) c.node)
     step_of g = rw (r, g) at within.in_x
@@ -57,10 +55,10 @@ module _ {T : Table} {ix : List ℕ} {c : Cursor} (i : Indexed T ix) (h : Holds 
     effect_of g = rw (r, g) at within.in_y
 
     pub frame_of : (c.group ≡ 0 → ⊥) → c.group ≡ 1
-    frame_of u = part_two c.group (slot_letter letter r) u
+    frame_of u = part_two c.group (rw r at h.stands.group) u
 
     pub fact_of : (c.group ≡ 0 → ⊥) → c.x < 64
-    fact_of u = omega (arith, rw (r, frame_of u) at within.in_x, facts_most i)
+    fact_of u = omega (arith, rw (r, frame_of u) at within.in_x, i.accepted.limits.facts)
 
 -- what `a == b` tells of two values
 pub same_values : {a b s t : Bool} → a ≡ s → b ≡ t → beq a b ≡ true → s ≡ t
@@ -142,9 +140,9 @@ module _ {T : Table} {v : Valuation} {c : Cursor} where
     pub up_node : any v (from (node T c.node).first (tasks_n (node T c.node))) ≡ true → RowTrue T v c
     up_node e = record { satisfied = λ j h. rw (r, g) (up_clause v (node T c.node) _ ∙ or_l _ _ e) }
 
-    pub up_child : {ix : List ℕ} {m : ℕ} → InNode T ix c.node → c.x < length (node T c.node).children → m ≡ (child_at (node T c.node) c.x).node
+    pub up_child : {ix : List ℕ} {m : ℕ} → Indexed T ix → c.node < length (source T).nodes → c.x < length (node T c.node).children → m ≡ (child_at (node T c.node) c.x).node
         → any v (from (node T m).first (tasks_n (node T m))) ≡ false → RowTrue T v c
-    up_child {ix} {m} i l q e = record { satisfied = λ j h. rw (r, g) (up_clause v (node T c.node) (C.first + j) ∙ or_r (any v (from (node T c.node).first (tasks_n (node T c.node)))) (clause_true v (neg (C.first + j) ∷ [])) (rw (off j (width j h)))) }
+    up_child {ix} {m} i t l q e = record { satisfied = λ j h. rw (r, g) (up_clause v (node T c.node) (C.first + j) ∙ or_r (any v (from (node T c.node).first (tasks_n (node T c.node)))) (clause_true v (neg (C.first + j) ∷ [])) (rw (off j (width j h)))) }
       where
         C : Child
         C = child_at (node T c.node) c.x
@@ -153,4 +151,4 @@ module _ {T : Table} {v : Valuation} {c : Cursor} where
         width j h = (inside (source T) 1 c.node 6 c.x c.y j (rw (r, g) at h)).in_row
 
         off : (j : ℕ) → j < childWidth C → v (C.first + j) ≡ false
-        off j h = let k = child_known i c.x l in each_off v C.first (childWidth C) (rw (k.first, k.steps, k.jobs, ← q) e) j h
+        off j h = let n : InNode T ix c.node = record { indexed = i; there = t } in let k = child_known n c.x l in each_off v C.first (childWidth C) (rw (k.first, k.steps, k.jobs, ← q) e) j h

@@ -2,18 +2,40 @@
 -- One record at a time.
 use mathlib.Core.Path.{◌≡◌, refl, sym, ap, ◌∙◌}
 use mathlib.Core.List.{List, [], ◌∷◌, map, ◌++◌, map-append}
-use Prim.Native.Nat.{ℕ, zero, suc, ◌+◌, ◌≤◌, ◌<◌}
+use Prim.Native.Nat.{ℕ, zero, suc, ◌+◌, ◌*◌, ◌≤◌, ◌<◌}
 use native.Mathlib.Numerals.{add-one}
 use native.Mathlib.Nat.{zero-add}
 use native.Mathlib.Omega.{arith}
-use lib.ListN.{length, drop, set, length-append, length-drop, length-map}
-use lib.Seq.{drop-cons, set_at, append_snoc}
+use lib.ListN.{length, get_or, take, drop, set, length-append, length-drop, length-map}
+use lib.Seq.{drop-cons, set_at, append_snoc, get_or-take, get_or-drop}
 use Rattle.lists.specs.List.{from, up_to}
 use Rattle.nodes.specs.declared.Node.{Node}
-use Rattle.nodes.specs.Nodes.{record_at, laid}
+use Rattle.std.specs.Simd.{first_chunks}
+use Rattle.nodes.specs.Nodes.{in_array, record_at, laid}
 use Rattle.nodes.specs.Tree.{blank}
 
 -- Laid -------------------------------------------------------------------------------------------------------------------------------
+-- the record behind the first five words
+word : (fs : List ℕ) (i k : ℕ) → get_or (drop 5 fs) (i * 5 + k) 0 ≡ get_or fs (suc i * 5 + k) 0
+word fs i k = let e : suc i * 5 + k ≡ 5 + (i * 5 + k) = omega arith in rw e (get_or-drop 5 fs (i * 5 + k) 0)
+
+pub later_record : (fs : List ℕ) (i : ℕ) → record_at (drop 5 fs) i ≡ record_at fs (suc i)
+later_record fs i =
+    let z : i * 5 + 0 ≡ i * 5 = omega arith in
+    let y : suc i * 5 + 0 ≡ suc i * 5 = omega arith in
+    let a : get_or (drop 5 fs) (i * 5) 0 ≡ get_or fs (suc i * 5) 0 = rw z at (rw y at (word fs i 0)) in
+    rw (word fs i 1, word fs i 2, word fs i 3, word fs i 4, a)
+
+-- the first
+pub first_record : (fs : List ℕ) → in_array (take 5 fs) ≡ record_at fs 0
+first_record fs = grind (arith, get_or-take)
+
+-- a record read from the array that its five words are
+pub in_chunk : (fs : List ℕ) (n i : ℕ) → i < n → in_array (get_or (first_chunks 5 n fs) i []) ≡ record_at fs i
+in_chunk fs zero i h = absurd (omega arith)
+in_chunk fs (suc n) zero h = first_record fs
+in_chunk fs (suc n) (suc i) h = in_chunk (drop 5 fs) n i (omega arith) ∙ later_record fs i
+
 pub length_from : (k n : ℕ) → length (from k n) ≡ n
 length_from k zero = refl
 length_from k (suc n) = omega (arith, length_from (suc k) n)

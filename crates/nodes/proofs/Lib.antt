@@ -1,5 +1,4 @@
--- Laws, then what the walks share.
+-- Records kept as words: laid, and compared.
 pub mod Laws
 pub mod Words
 pub mod Same
-pub mod Walk

@@ -12,6 +12,10 @@ node_words n = n.depth ∷ n.parent ∷ n.children ∷ n.steps ∷ n.jobs ∷ []
 abbrev pub words_of : List Node → List ℕ
 words_of ns = concat_map node_words ns
 
+-- the record that is kept as these five words
+abbrev pub in_array : List ℕ → Node
+in_array w = record { depth = get_or w 0 0; parent = get_or w 1 0; children = get_or w 2 0; steps = get_or w 3 0; jobs = get_or w 4 0 }
+
 -- record i of those kept as words
 abbrev pub record_at : List ℕ → ℕ → Node
 record_at fs i = record {

@@ -3,20 +3,36 @@
 // functions alone.
 #![tactic(auto)]
 
-ghost use Rattle.std.specs.Prelude.{◌≡◌, ◌&&◌, ◌+◌, ◌*◌, ◌≤◌, ◌<◌, length, set, get_or};
-ghost use Rattle.nodes.specs.Nodes.{record_at, laid, same_to};
-ghost use Rattle.nodes.specs.Tree.{blank, same_node};
+ghost use Rattle.std.specs.Prelude.{◌≡◌, ◌*◌, ◌/◌, ◌≤◌, ◌<◌, length, set, get_or};
+ghost use Rattle.nodes.specs.Nodes.{in_array, laid, same_to};
+ghost use Rattle.nodes.specs.Tree.{blank};
 
 // Document 01's record of a node: its depth, its parent's number, its child count, the sets of steps and of jobs it may hold.
 // Other languages lend it too, so its fields lie in this order.
 #[repr(C)]
-#[derive(Clone, Copy)]
+#[derive(Clone, Copy, PartialEq, Eq)]
 pub struct Node {
     pub depth: u64,
     pub parent: u64,
     pub children: u64,
     pub steps: u64,
     pub jobs: u64,
+}
+
+// The record that is kept as five words.
+impl From<[u64; 5]> for Node {
+    ghost from_gives = { λ w n. n ≡ in_array w };
+
+    fn from(w: [u64; 5]) -> Node {
+        let [depth, parent, children, steps, jobs] = w;
+        Node {
+            depth,
+            parent,
+            children,
+            steps,
+            jobs,
+        }
+    }
 }
 
 // Record i.
@@ -35,69 +51,23 @@ pub fn write(ns: &mut [Node], i: usize, n: Node)
     ns[i] = n;
 }
 
-// Record i of those kept as words.
-fn node_at(flat: &[u64], i: usize) -> Node
-    requires { (i < 65536) × (i * 5 + 4 < length flat.now) }
-    ensures { result ≡ record_at flat.now i }
+// The first records are those kept in flat; the others stay.
+#[tactic(auto)]
+pub fn scatter(ns: &mut [Node], flat: &[u64])
+    requires { length flat.now ≤ 5 * length ns.old }
+    ensures { ns.new ≡ laid flat.now ns.old (length flat.now / 5) }
 {
-    let a = i * 5;
-    Node {
-        depth: flat[a],
-        parent: flat[a + 1],
-        children: flat[a + 2],
-        steps: flat[a + 3],
-        jobs: flat[a + 4],
+    let (records, _) = flat.as_chunks::<5>();
+    for (i, w) in records.iter().enumerate() {
+        ns[i] = Node::from(*w);
     }
 }
 
-// The first n records are those of flat; the others stay.
-#[tactic(auto, using(crate::proofs::Laws::laid_none, crate::proofs::Laws::laid_more, crate::proofs::Laws::length_laid))]
-pub fn scatter<'a, 'b>(ns: &'a mut [Node], flat: &'b [u64], n: usize)
-    requires { (n < 65536) × (n ≤ length ns.old) × (n * 5 ≤ length flat.now) }
-    ensures { ns.new ≡ laid flat.now ns.old n }
+// Question 10: are the first records those kept in flat?
+pub fn is_same(ns: &[Node], flat: &[u64]) -> bool
+    requires { length flat.now ≤ 5 * length ns.now }
+    ensures { result ≡ same_to flat.now ns.now (length flat.now / 5) }
 {
-    let mut i: usize = 0;
-    while i < n {
-        write(ns, i, node_at(flat, i));
-        i += 1;
-    }
-}
-
-// Is n record i of those kept as words, and was all before it the same?
-fn and_same(flat: &[u64], i: usize, n: Node, ok: bool) -> bool
-    requires { (i < 65536) × (i * 5 + 4 < length flat.now) }
-    ensures { result ≡ (ok && same_node n (record_at flat.now i)) }
-{
-    let a = i * 5;
-    if !ok {
-        return false;
-    }
-    if n.depth != flat[a] {
-        return false;
-    }
-    if n.parent != flat[a + 1] {
-        return false;
-    }
-    if n.children != flat[a + 2] {
-        return false;
-    }
-    if n.steps != flat[a + 3] {
-        return false;
-    }
-    n.jobs == flat[a + 4]
-}
-
-// Question 10: are the first n records those kept in these words?
-#[tactic(auto, using(crate::proofs::Same::same_none, crate::proofs::Same::same_more))]
-pub fn is_same<'a, 'b>(ns: &'a [Node], flat: &'b [u64], n: usize) -> bool
-    requires { (n < 65536) × (n ≤ length ns.now) × (n * 5 ≤ length flat.now) }
-    ensures { result ≡ same_to flat.now ns.now n }
-{
-    let mut ok = true;
-    let mut i: usize = 0;
-    while i < n {
-        ok = and_same(flat, i, read(ns, i), ok);
-        i += 1;
-    }
-    ok
+    let (records, _) = flat.as_chunks::<5>();
+    ns.iter().zip(records).all(|(n, w)| *n == Node::from(*w))
 }

@@ -1,7 +1,8 @@
 -- Computed facts, then laws by topic, then the functions.
 pub mod Computed
 pub mod Sections
-pub mod Names
+pub mod Texts
 pub mod Questions
-pub mod Lookup
-pub mod Outlined
+pub mod Names
+pub mod Spans
+pub mod ByKind

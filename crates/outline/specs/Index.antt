@@ -1,52 +1,85 @@
--- Inside the reader, nothing to believe: what the code keeps of a file, which is counts of lines, places of sections, and the parts where
--- names stand. Contracts cite it; it follows from the definitions. Assumes nothing.
-use Rattle.std.specs.Prelude.{◌≡◌, List, ℕ, ◌+◌, ◌≤◌, ◌<◌, length, get_or}
-use Rattle.std.proofs.Math.Seq.{slice}
-use Rattle.lines.specs.Parts.{Piece, no_line, lines_of}
-use Rattle.lines.specs.Cut.{lines_from}
-use Rattle.grammar.specs.Line.{F, S, T, byte_of, name_in}
-use Rattle.outline.specs.Sections.{leading, past, sections}
+-- Inside the reader, nothing to believe: what the code keeps of a file, which is the texts of sections and the parts where names stand.
+-- Contracts cite it; it follows from the definitions. Assumes nothing.
+use Rattle.std.specs.Prelude.{◌≡◌, true, cond, List, ℕ, map, ◌+◌, ◌≤◌, ◌<◌, length, get_or, Option, Some, None}
+use Rattle.std.specs.List.{All}
+use Rattle.lists.specs.List.{all, take_while, drop_while}
+use Rattle.planning.specs.Table.{most_facts, most_steps, most_jobs, most_methods}
+use Rattle.lines.specs.Bytes.{LF}
+use Rattle.lines.specs.Parts.{Piece, no_line, ended, lines_of}
+use Rattle.lines.specs.Part.{Part, bytes_at}
+use Rattle.grammar.specs.Line.{begins, name_in}
+use Rattle.grammar.specs.Name.{Name}
+use Rattle.outline.specs.Sections.{sections, start_line, root_line}
+use Rattle.outline.specs.Names.{among, number_of, Kind, fact, step, job, task}
 use Rattle.outline.specs.Part.{part_of}
-use Rattle.outline.specs.Questions.{most_names}
+use Rattle.outline.specs.Questions.{short, met4}
+use Rattle.outline.specs.declared.Span.{Span}
 
--- n lines from the place a on begin with the byte c, and the others begin at e. Left free: e, where there are no others and no LF ends the last
-pub record Runs (c : ℕ) (s : List ℕ) (a n e : ℕ) : Type 0 where
-  pub low : a ≤ e
-  pub high : e ≤ length s
-  pub count : n ≡ length (leading c (lines_from s a))
-  pub rest : lines_from s e ≡ past c (lines_from s a)
+-- the number of the name n among ns, where it is one of them
+unfoldable pub number_in : List Name → Name → Option ℕ
+unfolding among number_of
+number_in ns n = cond (among ns n) (Some (number_of ns n)) None
 
--- the counts of the F, S, T and M lines, and the places where the S lines, the T lines, the M lines and the last lines begin.
--- Left free: a place behind which no line comes, where no LF ends the last
-pub record Shaped (s : List ℕ) (f st j m at_s atT atM at_e : ℕ) : Type 0 where
+-- how many names of a kind there may be
+abbrev pub most_in : Kind → ℕ
+most_in fact = most_facts
+most_in step = most_steps
+most_in job = most_jobs
+most_in task = most_steps + most_jobs
+
+-- the bytes of some lines
+abbrev pub bytes_of : List Piece → List (List ℕ)
+bytes_of ls = map (λ l. l.bytes) ls
+
+-- the lines of f are those in front of the text t that begin with the byte c, and those of b the others
+pub record Runs (c : ℕ) (t f b : List ℕ) : Type 0 where
+  pub front : ended LF f ≡ take_while (begins c) (ended LF t)
+  pub behind : ended LF b ≡ drop_while (begins c) (ended LF t)
+
+-- What questions 2 to 5, met, tell of a file: the counts of its F, S, T and M lines, the texts of the S and the M lines, the I and the R line,
+-- all within the limits
+pub record Shaped (s : List ℕ) (f st j m : ℕ) (ss ms i r : List ℕ) : Type 0 where
   pub facts : f ≡ length (sections (lines_of s)).facts
   pub steps : st ≡ length (sections (lines_of s)).steps
   pub jobs : j ≡ length (sections (lines_of s)).jobs
   pub methods : m ≡ length (sections (lines_of s)).methods
-  pub ends : lines_from s at_e ≡ (sections (lines_of s)).ends
-  pub place_s : lines_from s at_s ≡ past (byte_of F) (lines_of s)
-  pub place_t : lines_from s atT ≡ past (byte_of S) (past (byte_of F) (lines_of s))
-  pub place_m : lines_from s atM ≡ past (byte_of T) (past (byte_of S) (past (byte_of F) (lines_of s)))
-  pub high_s : at_s ≤ atT
-  pub high_t : atT ≤ atM
-  pub high_m : atM ≤ at_e
-  pub high : at_e ≤ length s
+  pub step_lines : ended LF ss ≡ bytes_of (sections (lines_of s)).steps
+  pub method_lines : ended LF ms ≡ bytes_of (sections (lines_of s)).methods
+  pub start : i ≡ start_line (sections (lines_of s))
+  pub root : r ≡ root_line (sections (lines_of s))
+  pub few_facts : f ≤ most_facts
+  pub few_steps : st ≤ most_steps
+  pub few_jobs : j ≤ most_jobs
+  pub few_methods : m ≤ most_methods
+  pub bodies : all short (sections (lines_of s)).methods ≡ true
+  pub ends : met4 (sections (lines_of s)) ≡ true
 
--- the name of the line l stands at the place p, with size z
-pub record Entry (s : List ℕ) (l : Piece) (p z : ℕ) : Type 0 where
-  pub start : p ≡ (part_of l).start
-  pub size : z ≡ (part_of l).size
-  pub high : p + z ≤ length s
-  pub shown : slice p (p + z) s ≡ name_in l.bytes
+-- past the last of some spans
+abbrev pub no_span : Span
+no_span = record { start = 0; size = 0 }
 
--- the first k places and sizes are those of the names of the first k lines. Left free: those past k
-pub record Held (s : List ℕ) (ls : List Piece) (starts sizes : List ℕ) (k : ℕ) : Type 0 where
-  pub at : (i : ℕ) → i < k → Entry s (get_or ls i no_line) (get_or starts i 0) (get_or sizes i 0)
+-- as a part
+abbrev pub part_in : Span → Part
+part_in p = record { start = p.start; size = p.size }
 
--- the names of f facts, st steps and j jobs are all held, and there is room for them
-pub record Indexed (s : List ℕ) (f st j : ℕ) (starts sizes : List ℕ) : Type 0 where
-  pub facts : f ≡ length (sections (lines_of s)).facts
-  pub steps : st ≡ length (sections (lines_of s)).steps
-  pub jobs : j ≡ length (sections (lines_of s)).jobs
-  pub few : f + st + j ≤ most_names
-  pub held : Held s (lines_from s 0) starts sizes (f + st + j)
+-- each span lies in the file
+abbrev pub Within : List ℕ → List Span → Type 0
+Within s ps = All (λ p. p.start + p.size ≤ length s) ps
+
+-- the bytes that a span shows
+abbrev pub shown : List ℕ → Span → List ℕ
+shown s p = bytes_at s (part_in p)
+
+abbrev pub all_shown : List ℕ → List Span → List (List ℕ)
+all_shown s ps = map (shown s) ps
+
+-- the name of the line l stands in the span p
+pub record Entry (s : List ℕ) (l : Piece) (p : Span) : Type 0 where
+  pub start : p.start ≡ (part_of l).start
+  pub size : p.size ≡ (part_of l).size
+  pub high : p.start + p.size ≤ length s
+  pub shown : shown s p ≡ name_in l.bytes
+
+-- the first k spans are those of the names of the first k lines. Left free: those past k
+pub record Held (s : List ℕ) (ps : List Span) (k : ℕ) : Type 0 where
+  pub at : (i : ℕ) → i < k → Entry s (get_or (lines_of s) i no_line) (get_or ps i no_span)

@@ -1,22 +1,23 @@
-// The outline of a table file: its sections by counts and places, the parts where names are declared, the look-up of a name, and
-// questions 2 to 6. A part is two places of the file, as in crate `lines`. Inside the reader, as crate `grammar` is.
+// The outline of a table file: the texts of its sections, the parts where names are declared, the look-up of a name, and questions 2 to 6.
+// Inside the reader, as crate `grammar` is.
 #![tactic(auto)]
 
-ghost use Rattle.std.specs.Prelude.{◌≡◌, true, ◌+◌, ◌≤◌, ◌<◌, length};
-ghost use Rattle.std.proofs.Math.Seq.{slice};
+ghost use Rattle.std.specs.Prelude.{◌≡◌, [], ◌∷◌, ◌+◌, ◌≤◌, ◌<◌, ◌^◌, length, is_some, IfOk, IfSome};
 ghost use Rattle.lists.specs.List.{all};
 ghost use Rattle.lists.specs.Question.{first_unmet};
-ghost use Rattle.lines.specs.Parts.{lines_of};
-ghost use Rattle.lines.specs.Cut.{lines_from, line_at};
+ghost use Rattle.lines.specs.Bytes.{LF, same_bytes};
+ghost use Rattle.lines.specs.Parts.{ended, lines_of};
+ghost use Rattle.unmet.specs.Number.{unmet_in};
+ghost use Rattle.outline.specs.Part.{part_of};
 ghost use Rattle.outline.specs.Sections.{sections, is_end};
-ghost use Rattle.outline.specs.Names.{names_of, number_of, all_new, declared};
-ghost use Rattle.grammar.specs.File.{met2};
+ghost use Rattle.outline.specs.Names.{all_new, declared};
 ghost use Rattle.outline.specs.Questions.{most_names, within_counts, short};
-ghost use Rattle.outline.specs.Index.{Runs, Shaped, Entry, Held, Indexed};
-ghost use Rattle.outline.specs.Outlined.{kind_of, questions2to5, no_outline, Outlined};
+ghost use Rattle.outline.specs.Index.{number_in, most_in, Runs, Shaped, Held, Within, part_in, shown, all_shown};
+ghost use Rattle.outline.specs.Outlined.{kind_of, questions2to5, questions2to6};
 
 use grammar::{are_lines, count_names, field_at, fits_and_ends, line_begins};
-use lines::{cut, is_same};
+use lines::next_line;
+use unmet::Unmet;
 
 // "At most 64 facts, 64 steps, 64 jobs, 128 methods, 8 names in a body."
 pub const MOST_FACTS: usize = 64;
@@ -32,254 +33,193 @@ pub const MOST_IN_BODY: usize = 8;
 // Facts, steps and jobs have names.
 pub const MOST_NAMES: usize = MOST_FACTS + MOST_STEPS + MOST_JOBS;
 
-// How many lines, and the place of the line after them.
+// Some lines, one after the other: how many, and their text.
 #[derive(Clone, Copy)]
-struct Run {
-    lines: usize,
-    next: usize,
+pub struct Section<'a> {
+    pub count: usize,
+    pub text: &'a [u8],
+    ghost counted: { count ≡ length (ended LF text.now) },
 }
 
-// The lines from the place at on that begin with the byte c.
-fn count_lines(s: &[u8], at: usize, c: u8) -> Run
-    requires { at ≤ length s.now }
-    ensures { Runs c s.now at result.lines result.next }
+// The lines in front of the text that begin with the byte c, and the text behind them.
+fn leading(text: &[u8], c: u8) -> (Section<'_>, &[u8])
+    ensures { Runs c text.now result.0.text.now result.1.now }
 {
-    let n = s.len();
-    let mut a = at;
-    let mut k = 0;
-    while a < n {
-        let b = cut(s, a, n, b'\n');
-        if b == n {
-            return Run { lines: k, next: a };
+    let mut count = 0;
+    let mut rest = text;
+    while let Some((line, behind)) = next_line(rest) {
+        if !line_begins(line, c) {
+            break;
         }
-        if !line_begins(s, a, b, c) {
-            return Run { lines: k, next: a };
-        }
-        k += 1;
-        a = b + 1;
+        count += 1;
+        rest = behind;
     }
-    Run { lines: k, next: a }
+    let text = &text[..text.len() - rest.len()];
+    (Section { count, text }, rest)
 }
 
-// How many lines of each letter the file has, and where the S, the T, the M and the last lines begin.
-#[derive(Clone, Copy)]
-pub struct Shape {
-    pub facts: usize,
-    pub steps: usize,
-    pub jobs: usize,
-    pub methods: usize,
-    pub steps_at: usize,
-    pub jobs_at: usize,
-    pub methods_at: usize,
-    pub ends_at: usize,
-}
-
-fn find_shape(s: &[u8]) -> Shape
-    ensures { Shaped s.now result.facts result.steps result.jobs result.methods result.steps_at result.jobs_at result.methods_at result.ends_at }
+// Question 4, of the text behind the M lines: one I line, one R line, no more.
+fn last_lines(text: &[u8]) -> Option<(&[u8], &[u8])>
+    ensures asked { is_some result ≡ is_end (lines_of text.now) }
+    ensures lines { IfSome result (λ x. ended LF text.now ≡ x.0.now ∷ x.1.now ∷ []) }
 {
-    let f = count_lines(s, 0, b'F');
-    let g = count_lines(s, f.next, b'S');
-    let t = count_lines(s, g.next, b'T');
-    let m = count_lines(s, t.next, b'M');
-    Shape {
-        facts: f.lines,
-        steps: g.lines,
-        jobs: t.lines,
-        methods: m.lines,
-        steps_at: f.next,
-        jobs_at: g.next,
-        methods_at: t.next,
-        ends_at: m.next,
+    let (start, behind) = next_line(text)?;
+    let (root, behind) = next_line(behind)?;
+    if line_begins(start, b'I') && line_begins(root, b'R') && next_line(behind).is_none() {
+        Some((start, root))
+    } else {
+        None
     }
-}
-
-// Question 4, of the lines from the place a on: one I line, one R line, no more.
-fn ends_in_order(s: &[u8], a: usize) -> bool
-    requires { a ≤ length s.now }
-    ensures { result ≡ is_end (lines_from s.now a) }
-{
-    let n = s.len();
-    let b = cut(s, a, n, b'\n');
-    if b == n {
-        return false;
-    }
-    if !line_begins(s, a, b, b'I') {
-        return false;
-    }
-    let d = b + 1;
-    let e = cut(s, d, n, b'\n');
-    if e == n {
-        return false;
-    }
-    if !line_begins(s, d, e, b'R') {
-        return false;
-    }
-    let f = e + 1;
-    cut(s, f, n, b'\n') == n
 }
 
 // Question 5, of the counts of lines.
 fn counts_fit(facts: usize, steps: usize, jobs: usize, methods: usize) -> bool
     ensures { result ≡ within_counts facts steps jobs methods }
 {
-    if facts > MOST_FACTS {
-        return false;
-    }
-    if steps > MOST_STEPS {
-        return false;
-    }
-    if jobs > MOST_JOBS {
-        return false;
-    }
-    methods <= MOST_METHODS
+    facts <= MOST_FACTS && steps <= MOST_STEPS && jobs <= MOST_JOBS && methods <= MOST_METHODS
 }
 
-// Question 5, of bodies: has each of the n M lines from the place at on at most so many names in its body?
-fn bodies_fit(s: &[u8], at: usize, n: usize) -> bool
-    requires { (at ≤ length s.now) × (n ≤ length (lines_from s.now at)) }
-    ensures { result ≡ all short (slice 0 n (lines_from s.now at)) }
+// Question 5, of the bodies of M lines: has each at most so many names?
+fn bodies_fit(text: &[u8]) -> bool
+    ensures { result ≡ all short (lines_of text.now) }
 {
-    let mut i = 0;
-    let mut a = at;
-    while i < n {
-        let b = cut(s, a, s.len(), b'\n');
-        let f = field_at(s, a, b, 2);
-        if count_names(s, f.from, f.to) > MOST_IN_BODY {
+    let mut rest = text;
+    while let Some((line, behind)) = next_line(rest) {
+        if count_names(field_at(line, 2)) > MOST_IN_BODY {
             return false;
         }
-        i += 1;
-        a = b + 1;
+        rest = behind;
     }
     true
 }
 
-// The first of questions 2 to 5 that is not met, or 0; 2 is met.
-fn first_unmet(s: &[u8], h: Shape) -> usize
-    requires { Shaped s.now h.facts h.steps h.jobs h.methods h.steps_at h.jobs_at h.methods_at h.ends_at
-        × (met2 s.now ≡ true) }
-    ensures { result ≡ first_unmet (questions2to5 s.now) }
-{
-    if !are_lines(s) {
-        return 3;
-    }
-    if !ends_in_order(s, h.ends_at) {
-        return 4;
-    }
-    if !counts_fit(h.facts, h.steps, h.jobs, h.methods) {
-        return 5;
-    }
-    if !bodies_fit(s, h.methods_at, h.methods) {
-        return 5;
-    }
-    0
-}
-
-// Where a name stands: its first byte's place and its size.
+// The sections of a file that meets questions 2 to 5: how many F and T lines, the S and the M lines, the I and the R line.
 #[derive(Clone, Copy)]
-struct Span {
-    start: usize,
-    size: usize,
+pub struct Shape<'a> {
+    pub file: &'a [u8],
+    pub facts: usize,
+    pub steps: Section<'a>,
+    pub jobs: usize,
+    pub methods: Section<'a>,
+    pub start: &'a [u8],
+    pub root: &'a [u8],
+    ghost shaped: { Shaped file.now facts steps.count jobs methods.count steps.text.now methods.text.now start.now root.now },
 }
 
-// Where the name of the line from a up to b stands.
-fn name_of(s: &[u8], a: usize, b: usize) -> Span
-    requires { (a ≤ b) × (b < length s.now) }
-    ensures { Entry s.now (line_at s.now a b) result.start result.size }
+// Question 2 comes before any walk of the file, so that one that is too long is turned down at once, however long.
+fn shape_of(file: &[u8]) -> Result<Shape<'_>, Unmet>
+    ensures question { unmet_in result ≡ first_unmet (questions2to5 file.now) }
+    ensures of { IfOk result (λ h. h.file.now ≡ file.now) }
 {
-    let e = cut(s, a, b, b'\t');
-    if e == b {
-        return Span {
-            start: b + 1,
-            size: 0,
+    if !fits_and_ends(file) {
+        return Err(Unmet::Ended);
+    }
+    if !are_lines(file) {
+        return Err(Unmet::Formed);
+    }
+    let (facts, behind) = leading(file, b'F');
+    let (steps, behind) = leading(behind, b'S');
+    let (jobs, behind) = leading(behind, b'T');
+    let (methods, behind) = leading(behind, b'M');
+    let Some((start, root)) = last_lines(behind) else {
+        return Err(Unmet::Ordered);
+    };
+    if !counts_fit(facts.count, steps.count, jobs.count, methods.count)
+        || !bodies_fit(methods.text)
+    {
+        return Err(Unmet::Limits);
+    }
+    Ok(Shape {
+        file,
+        facts: facts.count,
+        steps,
+        jobs: jobs.count,
+        methods,
+        start,
+        root,
+    })
+}
+
+// Where a name stands: its first byte's place and its size. Two numbers and no slice, since these two are what the words of a table keep of it.
+#[derive(Clone, Copy)]
+pub struct Span {
+    pub start: usize,
+    pub size: usize,
+}
+
+impl Span {
+    // The name itself.
+    fn of(self, file: &[u8]) -> &[u8]
+        requires { self.start + self.size ≤ length file.now }
+        ensures { result.now ≡ shown file.now self }
+    {
+        &file[self.start..self.start + self.size]
+    }
+}
+
+// Where the name of the line stands that begins at the place at.
+#[tactic(auto, unfolding(crate::specs::Part::part_of, grammar::specs::Line::name_in))]
+fn name_of(at: usize, line: &[u8]) -> Span
+    requires { at + length line.now < 2 ^ 63 }
+    ensures { part_in result ≡ part_of (record { start = at; bytes = line.now }) }
+{
+    let start = at + field_at(line, 0).len() + 1;
+    let size = field_at(line, 1).len();
+    Span { start, size }
+}
+
+// The names that the first n lines declare: those of F lines, then of S lines, then of T lines.
+fn declare(file: &[u8], n: usize) -> [Span; MOST_NAMES]
+    requires { (n ≤ most_names) × (n ≤ length (lines_of file.now)) }
+    ensures { Held file.now result n }
+{
+    let mut names = [Span { start: 0, size: 0 }; MOST_NAMES];
+    let mut at = 0;
+    let mut rest = file;
+    for name in &mut names[..n] {
+        // None is missing: the file has n lines.
+        let Some((line, behind)) = next_line(rest) else {
+            break;
         };
+        *name = name_of(at, line);
+        at += line.len() + 1;
+        rest = behind;
     }
-    let i = e + 1;
-    let d = cut(s, i, b, b'\t');
-    Span {
-        start: i,
-        size: d - i,
-    }
+    names
 }
 
-// A number for each name that a file may declare.
-pub type Places = [usize; MOST_NAMES];
-
-// Where the names of the first lines stand: those of F lines, then of S lines, then of T lines.
-#[derive(Clone, Copy)]
-pub struct Spans {
-    pub start: Places,
-    pub size: Places,
-}
-
-// The names that the first n lines declare.
-fn declare(s: &[u8], n: usize) -> Spans
-    requires { (n ≤ most_names) × (n ≤ length (lines_from s.now 0)) }
-    ensures { Held s.now (lines_from s.now 0) result.start result.size n }
+// Names are often alike but for their ends, as numbered ones are.
+fn is_same(a: &[u8], b: &[u8]) -> bool
+    ensures { result ≡ same_bytes a.now b.now }
 {
-    let mut start = [0; MOST_NAMES];
-    let mut size = [0; MOST_NAMES];
-    let mut i = 0;
-    let mut a = 0;
-    while i < n {
-        let b = cut(s, a, s.len(), b'\n');
-        let p = name_of(s, a, b);
-        start[i] = p.start;
-        size[i] = p.size;
-        i += 1;
-        a = b + 1;
-    }
-    Spans {
-        start: start,
-        size: size,
-    }
+    a.last() == b.last() && a == b
 }
 
-// The number, among lines lo up to hi, of the line that declares the name from a up to b: their count, where none does.
-fn find<'a>(
-    s: &[u8],
-    start: &'a Places,
-    size: &'a Places,
-    lo: usize,
-    hi: usize,
-    a: usize,
-    b: usize,
-) -> usize
-    requires { (lo ≤ hi) × (hi ≤ most_names) × (hi ≤ length (lines_from s.now 0)) × (a ≤ b) × (b ≤ length s.now)
-        × Held s.now (lines_from s.now 0) start.now size.now hi }
-    ensures { result ≡ number_of (names_of (slice lo hi (lines_from s.now 0))) (slice a b s.now) }
+// The number of a name among those that stand in some parts of the file, whether or not the file has an outline.
+pub fn find(file: &[u8], names: &[Span], name: &[u8]) -> Option<usize>
+    requires { Within file.now names.now }
+    ensures { result ≡ number_in (all_shown file.now names.now) name.now }
 {
-    let mut i = lo;
-    while i < hi {
-        let p = start[i];
-        let e = p + size[i];
-        if is_same(s, a, b, p, e) {
-            return i - lo;
-        }
-        i += 1;
-    }
-    i - lo
+    names.iter().position(|p| is_same(name, p.of(file)))
 }
 
-// Question 6, of the names that lines lo up to hi declare.
-fn are_new<'a>(s: &[u8], start: &'a Places, size: &'a Places, lo: usize, hi: usize) -> bool
-    requires { (lo ≤ hi) × (hi ≤ most_names) × (hi ≤ length (lines_from s.now 0)) × Held s.now (lines_from s.now 0) start.now size.now hi }
-    ensures { result ≡ all_new (names_of (slice lo hi (lines_from s.now 0))) }
+// Question 6, of the names that stand in some parts of the file.
+fn are_new(file: &[u8], names: &[Span]) -> bool
+    requires { Within file.now names.now }
+    ensures { result ≡ all_new (all_shown file.now names.now) }
 {
-    let mut i = lo;
-    while i < hi {
-        let p = start[i];
-        let e = p + size[i];
-        let j = i + 1;
-        if find(s, start, size, j, hi, p, e) < hi - j {
+    let mut rest = names;
+    while let Some((first, behind)) = rest.split_first() {
+        if find(file, behind, first.of(file)).is_some() {
             return false;
         }
-        i = j;
+        rest = behind;
     }
     true
 }
 
 // The kind in which a name is wanted; a task is a step or a job.
-#[derive(Clone, Copy)]
+#[derive(Clone, Copy, Debug, PartialEq, Eq)]
 pub enum Kind {
     Fact,
     Step,
@@ -287,79 +227,50 @@ pub enum Kind {
     Task,
 }
 
-// The number of the name from a up to b among those declared in the kind wanted: their count, where it is none of them.
-pub fn look_up<'a>(
-    s: &[u8],
-    start: &'a Places,
-    size: &'a Places,
-    facts: usize,
-    steps: usize,
-    jobs: usize,
-    kind: Kind,
-    a: usize,
-    b: usize,
-) -> usize
-    requires { Indexed s.now facts steps jobs start.now size.now × (a ≤ b) × (b ≤ length s.now) }
-    ensures { result ≡ number_of (declared (sections (lines_of s.now)) (kind_of kind)) (slice a b s.now) }
-{
-    match kind {
-        Kind::Fact => find(s, start, size, 0, facts, a, b),
-        Kind::Step => find(s, start, size, facts, facts + steps, a, b),
-        Kind::Job => find(s, start, size, facts + steps, facts + steps + jobs, a, b),
-        Kind::Task => find(s, start, size, facts, facts + steps + jobs, a, b),
-    }
-}
-
-// The first of questions 2 to 6 that is not met, or 0; then the shape of the file and the names that it declares.
+// A file that meets questions 2 to 6: its sections, and where the names stand that it declares.
 #[derive(Clone, Copy)]
-pub struct Outline {
-    pub question: usize,
-    pub shape: Shape,
-    pub names: Spans,
+pub struct Outline<'a> {
+    pub shape: Shape<'a>,
+    pub names: [Span; MOST_NAMES],
+    ghost held: { Held shape.file.now names (shape.facts + shape.steps.count + shape.jobs) },
 }
 
-fn refused(question: usize) -> Outline
-    ensures { result ≡ no_outline question }
-{
-    Outline {
-        question: question,
-        shape: Shape {
-            facts: 0,
-            steps: 0,
-            jobs: 0,
-            methods: 0,
-            steps_at: 0,
-            jobs_at: 0,
-            methods_at: 0,
-            ends_at: 0,
-        },
-        names: Spans {
-            start: [0; MOST_NAMES],
-            size: [0; MOST_NAMES],
-        },
+impl Outline<'_> {
+    // The names of a kind.
+    fn of_kind(&self, kind: Kind) -> &[Span]
+        ensures within { Within self.now.shape.file.now result.now }
+        ensures names { all_shown self.now.shape.file.now result.now ≡ declared (sections (lines_of self.now.shape.file.now)) (kind_of kind) }
+    {
+        let tasks = self.shape.facts;
+        let jobs = tasks + self.shape.steps.count;
+        let end = jobs + self.shape.jobs;
+        match kind {
+            Kind::Fact => &self.names[..tasks],
+            Kind::Step => &self.names[tasks..jobs],
+            Kind::Job => &self.names[jobs..end],
+            Kind::Task => &self.names[tasks..end],
+        }
+    }
+
+    // The number of the name among those declared in the kind wanted.
+    pub fn look_up(&self, kind: Kind, name: &[u8]) -> Option<usize>
+        ensures number { result ≡ number_in (declared (sections (lines_of self.now.shape.file.now)) (kind_of kind)) name.now }
+        ensures small { IfSome result (λ k. k < most_in (kind_of kind)) }
+    {
+        find(self.shape.file, self.of_kind(kind), name)
     }
 }
 
-// Question 2 comes before any walk of the file, so that one that is too long is turned down at once, however long.
-pub fn outline_of(s: &[u8]) -> Outline
-    ensures { Outlined s.now result }
+// The outline of a file, or the first of questions 2 to 6 that is not met.
+pub fn outline_of(file: &[u8]) -> Result<Outline<'_>, Unmet>
+    ensures question { unmet_in result ≡ first_unmet (questions2to6 file.now) }
+    ensures of { IfOk result (λ o. o.shape.file.now ≡ file.now) }
 {
-    if !fits_and_ends(s) {
-        return refused(2);
+    let shape = shape_of(file)?;
+    let n = shape.facts + shape.steps.count + shape.jobs;
+    let names = declare(file, n);
+    if !are_new(file, &names[..n]) {
+        return Err(Unmet::New);
     }
-    let h = find_shape(s);
-    let q = first_unmet(s, h);
-    if q != 0 {
-        return refused(q);
-    }
-    let n = h.facts + h.steps + h.jobs;
-    let d = declare(s, n);
-    if !are_new(s, &d.start, &d.size, 0, n) {
-        return refused(6);
-    }
-    Outline {
-        question: 0,
-        shape: h,
-        names: d,
-    }
+    Ok(Outline { shape, names })
 }

@@ -8,6 +8,8 @@ use lib.ListN.{length, length-append}
 use Rattle.lists.specs.List.{Every}
 use Rattle.lists.specs.Text.{bytes}
 use Rattle.lists.proofs.Every.{every_of}
+use Rattle.unmet.specs.declared.Unmet.{Unmet}
+use Rattle.unmet.specs.Number.{number_of}
 use Rattle.planning.specs.Table.{Table}
 use Rattle.planning.specs.Text.{decimal, lines}
 use Rattle.planning.proofs.Text.Numeral.{decimal_length}
@@ -18,6 +20,13 @@ use Rattle.programs.specs.Output.{refused_line, formula_lines}
 
 pub refused_length : (n j : ℕ) → length (decimal n) ≤ suc j → length (refused_line n) ≤ 10 + j
 refused_length n j h = omega (arith, length-append (bytes "refused\t") (decimal n ++ (10 ∷ [])), length-append (decimal n) (10 ∷ []))
+
+-- a question's number has two digits at most
+few : (q : Unmet) → number_of q ≤ 15
+few q = grind arith
+
+pub number_length : (q : Unmet) → length (decimal (number_of q)) ≤ 20
+number_length q = decimal_length (number_of q) 19 (omega (arith, few q))
 
 -- what `formula` writes, by the verdict on the file
 pub lines_refused : (file : List ℕ) {n : ℕ} → accepting file ≡ unmet n → formula_lines file ≡ refused_line n ∷ []

@@ -3,8 +3,9 @@
 // standard error. The programs end with status 0 all the same: whoever runs them takes a line there for a failure.
 #![tactic(auto)]
 
-ghost use Rattle.std.specs.Prelude.{◌≡◌, ℕ, ◌≤◌, ◌<◌, [], ◌∷◌, length, OnOk};
+ghost use Rattle.std.specs.Prelude.{◌≡◌, ℕ, ◌≤◌, [], ◌∷◌, length, OnOk};
 ghost use Rattle.lists.specs.Written.{Wrote};
+ghost use Rattle.unmet.specs.Number.{number_of};
 ghost use Rattle.questions.specs.Questions.{taken};
 ghost use Rattle.encoding.specs.Calls.{checking};
 ghost use Rattle.io.specs.Counts.{IsPrefixLen};
@@ -13,11 +14,12 @@ ghost use Rattle.programs.specs.Output.{refused_line, formula_lines, formula_tex
 ghost use Rattle.programs.specs.Parts.{PartOf, room_of};
 ghost use Rattle.programs.specs.Room.{file_room, text_room};
 
-use answer::{LISTING_LEAST, Listed};
-use encoding::{Checked, TEXT_LEAST, Text};
+use answer::LISTING_LEAST;
+use encoding::TEXT_LEAST;
 use std::io::{Read, Write};
 use std::rt::Files;
 use std::{fs, io};
+use unmet::Unmet;
 
 // One byte more than a table or an answer may have, so that a longer file is noticed and not cut.
 pub const FILE_ROOM: usize = 65537;
@@ -74,17 +76,18 @@ fn open_named<F: Files>(files: &F, path: &[u8]) -> io::Result<F::File> {
 }
 
 // What is written ----------------------------------------------------------------------------------------------------------------
-// The line of a refusal.
-fn put_refused(text: &mut [u8], question: usize) -> usize
+// The line of a refusal, by its number: the bytes are put as in crate `writer`, whose contracts say where.
+fn put_refused(text: &mut [u8], unmet: Unmet) -> usize
     requires { 32 ≤ length text.old }
-    ensures { Wrote text.old 0 (refused_line question) text.new result }
+    ensures { Wrote text.old 0 (refused_line (number_of unmet)) text.new result }
 {
     let a = writer::put_bytes(text, 0, b"refused\t");
-    let b = writer::put_decimal(text, a, question as u64);
+    let b = writer::put_decimal(text, a, unmet.number() as u64);
     writer::put_byte(text, b, b'\n')
 }
 
-// A part of what `formula` writes: how many bytes it has, the line that comes behind it, and whether there is none.
+// A part of what `formula` writes: how many bytes it has, the line that comes behind it, and whether there is none. `next` stands beside
+// `last`, and is no Option: `PartOf` says it of the last part too.
 #[derive(Clone, Copy)]
 pub struct Part {
     pub used: usize,
@@ -93,9 +96,9 @@ pub struct Part {
 }
 
 // A refusal is one line, line 0.
-fn refused_part(question: usize, line: usize, text: &mut [u8]) -> Part
+fn refused_part(unmet: Unmet, line: usize, text: &mut [u8]) -> Part
     requires { 1024 ≤ length text.old }
-    ensures { PartOf (refused_line question ∷ []) line text.old text.new result }
+    ensures { PartOf (refused_line (number_of unmet) ∷ []) line text.old text.new result }
 {
     if line != 0 {
         return Part {
@@ -104,55 +107,52 @@ fn refused_part(question: usize, line: usize, text: &mut [u8]) -> Part
             last: true,
         };
     }
-    let used = put_refused(text, question);
     Part {
-        used: used,
+        used: put_refused(text, unmet),
         next: 1,
         last: true,
     }
 }
 
 // The lines of an accepted table's formula.
-fn lines_part<'a, 'b>(file: &'a [u8], clauses: usize, line: usize, text: &'b mut [u8]) -> Part
+fn lines_part(file: &[u8], clauses: usize, line: usize, text: &mut [u8]) -> Part
     requires { ((n v : ℕ) × (taken (n ∷ v ∷ clauses ∷ []) ≡ checking file.now)) × (1024 ≤ length text.old) }
     ensures { PartOf (formula_lines file.now) line text.old text.new result }
 {
-    let written = encoding::write_formula(file, line, text);
-    match written {
-        Text::Refused(_) => Part {
+    match encoding::write_formula(file, line, text) {
+        Ok(lines) => Part {
+            used: lines.used,
+            next: lines.next,
+            last: lines.next > clauses,
+        },
+        // question 11: no line is left
+        Err(_) => Part {
             used: 0,
             next: line,
             last: true,
-        },
-        Text::Written(used, next) => Part {
-            used: used,
-            next: next,
-            last: next > clauses,
         },
     }
 }
 
 // What `formula` writes from a line on, as many whole lines as fit.
-pub fn formula_part<'a, 'b>(file: &'a [u8], line: usize, text: &'b mut [u8]) -> Part
+pub fn formula_part(file: &[u8], line: usize, text: &mut [u8]) -> Part
     requires { 1024 ≤ length text.old }
     ensures { PartOf (formula_lines file.now) line text.old text.new result }
 {
-    let checked = encoding::check(file);
-    match checked {
-        Checked::Refused(question) => refused_part(question, line, text),
-        Checked::Accepted(_, _, clauses) => lines_part(file, clauses, line, text),
+    match encoding::check(file) {
+        Ok(counts) => lines_part(file, counts.clauses, line, text),
+        Err(unmet) => refused_part(unmet, line, text),
     }
 }
 
 // All that `procedure` writes.
-pub fn procedure_text<'a, 'b, 'c>(file: &'a [u8], reply: &'b [u8], text: &'c mut [u8]) -> usize
+pub fn procedure_text(file: &[u8], reply: &[u8], text: &mut [u8]) -> usize
     requires { 24576 ≤ length text.old }
     ensures { Wrote text.old 0 (procedure_text file.now reply.now) text.new result }
 {
-    let listed = answer::list_answer(file, reply, text);
-    match listed {
-        Listed::Refused(question) => put_refused(text, question),
-        Listed::Written(used) => used,
+    match answer::list_answer(file, reply, text) {
+        Ok(used) => used,
+        Err(unmet) => put_refused(text, unmet),
     }
 }
 
@@ -161,13 +161,7 @@ pub fn procedure_text<'a, 'b, 'c>(file: &'a [u8], reply: &'b [u8], text: &'c mut
 fn room_for(asked: usize) -> usize
     ensures { result ≡ room_of asked }
 {
-    if asked < TEXT_LEAST {
-        return TEXT_LEAST;
-    }
-    if asked > TEXT_ROOM {
-        return TEXT_ROOM;
-    }
-    asked
+    asked.clamp(TEXT_LEAST, TEXT_ROOM)
 }
 
 // Part by part. What the text holds afterwards is left free, but for its length.
@@ -179,8 +173,7 @@ fn print_parts<W: Write>(file: &[u8], text: &mut [u8], out: &mut W) -> io::Resul
     let mut line: usize = 0;
     loop {
         let part = formula_part(file, line, text);
-        let used = part.used;
-        out.write_all(&text[..used])?;
+        out.write_all(&text[..part.used])?;
         if part.last {
             return Ok(());
         }
@@ -206,16 +199,27 @@ pub fn write_procedure<W: Write>(file: &[u8], reply: &[u8], out: &mut W) -> io::
     out.write_all(&text[..used])
 }
 
-// The same to standard output. There is no outcome to state here and below: nothing comes back, nothing is lent to be written, and what
-// arrives on standard output no contract of the system's calls says.
-pub fn print_formula(rt: &(impl Print + Eprint), file: &[u8], room: usize) {
-    if let Err(error) = write_formula(file, room, &mut io::writer(rt)) {
-        let _ = eprintln!(rt; "formula: the output could not be written whole: {error}");
+// A program's last word where its output did not go out whole.
+fn warn(rt: &impl Eprint, program: &str, written: io::Result<()>) {
+    if let Err(error) = written {
+        let _ = eprintln!(rt; "{program}: the output could not be written whole: {error}");
     }
 }
 
+// The same to standard output. There is no outcome to state here and below: nothing comes back, nothing is lent to be written, and what
+// arrives on standard output no contract of the system's calls says.
+pub fn print_formula(rt: &(impl Print + Eprint), file: &[u8], room: usize) {
+    warn(
+        rt,
+        "formula",
+        write_formula(file, room, &mut io::writer(rt)),
+    );
+}
+
 pub fn print_procedure(rt: &(impl Print + Eprint), file: &[u8], reply: &[u8]) {
-    if let Err(error) = write_procedure(file, reply, &mut io::writer(rt)) {
-        let _ = eprintln!(rt; "procedure: the output could not be written whole: {error}");
-    }
+    warn(
+        rt,
+        "procedure",
+        write_procedure(file, reply, &mut io::writer(rt)),
+    );
 }

@@ -1,37 +1,44 @@
 -- What comes of the questions that a call puts, for every call.
 -- By the definition of `asked`.
-use mathlib.Core.Path.{◌≡◌, refl, sym, ap, ◌∙◌}
+use mathlib.Core.Path.{◌≡◌, refl, sym, ap}
 use mathlib.Core.Bool.{Bool, true, false}
-use mathlib.Core.List.{List}
+use mathlib.Core.List.{List, ◌∷◌}
 use Prim.Native.Nat.{ℕ, zero, suc}
 use native.Mathlib.Omega.{arith}
-use lib.ListN.{get_or}
 use Rattle.lists.specs.Question.{first_unmet}
 use Rattle.planning.specs.Table.{Table}
-use Rattle.questions.specs.Questions.{Verdict, unmet, accepted, if_met, accepting, by_number, by_verdict, asked, HandedBack, turned_down, taken}
-use Rattle.questions.specs.Own.{question_at, table_as, IsRead}
+use Rattle.questions.specs.Questions.{Verdict, unmet, accepted, accepting, by_number, by_verdict, asked, HandedBack, turned_down, taken}
 
+-- A call of these questions hands back these values and leaves this, or leaves what it was lent as it was ---------------------------
+module _ {L : Type 0} (enough : Bool) (file : List ℕ) (more : Table → List (ℕ × Bool)) (values : Table → List ℕ) (old : L) (left : Table → L) where
+  abbrev Came : HandedBack → L → Type 0
+  Came back new = (back ≡ asked enough file more turned_down (λ T. taken (values T))) × (new ≡ asked enough file more (λ n. old) left)
+
+  -- 1 to 9 are met, and one behind 9 is not, or all are
+  module _ (e : enough ≡ true) {T : Table} (a : accepting file ≡ accepted T) where
+    pub came_by : {back : HandedBack} {new : L} → back ≡ by_number (first_unmet (more T)) turned_down (taken (values T))
+        → new ≡ by_number (first_unmet (more T)) (λ n. old) (left T) → Came back new
+    came_by b n = (rw (e, a) b, rw (e, a) n)
+
+    pub came_refused : {q : ℕ} → first_unmet (more T) ≡ q → (q ≡ 0 → ⊥) → Came (turned_down q) old
+    came_refused {q = zero} u n = absurd (n refl)
+    came_refused {q = suc q} u n = came_by (sym (rw u)) (sym (rw u))
+
+    pub came_met : first_unmet (more T) ≡ 0 → Came (taken (values T)) (left T)
+    came_met u = came_by (sym (rw u)) (sym (rw u))
+
+-- What comes of questions that are met up to 9
 module _ {A : Type 0} (file : List ℕ) (more : Table → List (ℕ × Bool)) (refuse : ℕ → A) (succeed : Table → A) where
-  -- a buffer is too short
-  pub asked_short : {b : Bool} → b ≡ false → asked b file more refuse succeed ≡ refuse 1
-  asked_short e = rw e
-
-  -- a file that is accepted
   pub asked_accepted : {T : Table} → accepting file ≡ accepted T → {b : Bool} → b ≡ true → asked b file more refuse succeed ≡ by_number (first_unmet (more T)) refuse (succeed T)
   asked_accepted a e = rw (e, a)
 
-  module _ {own : List ℕ} (read : IsRead file own) {b : Bool} (enough : b ≡ true) where
-    -- one of 2 to 9 is not met
-    pub asked_unmet : (get_or own question_at 0 ≡ 0 → ⊥) → asked b file more refuse succeed ≡ refuse (get_or own question_at 0)
-    asked_unmet u = rw enough (ap (λ (v : Verdict). by_verdict v more refuse succeed) (sym read.verdict) ∙ go (get_or own question_at 0) u)
-      where
-        go : (n : ℕ) → (n ≡ 0 → ⊥) → by_verdict (if_met n (table_as own)) more refuse succeed ≡ refuse n
-        go zero u = absurd (u refl)
-        go (suc n) u = refl
+-- A question in front of others that is met, or not
+module _ (n : ℕ) (qs : List (ℕ × Bool)) where
+  pub front_met : {b : Bool} → b ≡ true → first_unmet ((n, b) ∷ qs) ≡ first_unmet qs
+  front_met e = rw e
 
-    -- all are met
-    pub asked_met : get_or own question_at 0 ≡ 0 → asked b file more refuse succeed ≡ by_number (first_unmet (more (table_as own))) refuse (succeed (table_as own))
-    asked_met z = rw enough (ap (λ (v : Verdict). by_verdict v more refuse succeed) (sym read.verdict) ∙ ap (λ (n : ℕ). by_verdict (if_met n (table_as own)) more refuse succeed) z)
+  pub front_unmet : {b : Bool} → b ≡ false → first_unmet ((n, b) ∷ qs) ≡ n
+  front_unmet e = rw e
 
 -- What was handed back tells what comes of the same questions otherwise --------------------------------------------------------
 module _ (file : List ℕ) (more : Table → List (ℕ × Bool)) (f : Table → List ℕ) (b : Bool) where

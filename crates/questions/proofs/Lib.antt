@@ -1,8 +1,6 @@
 -- Laws, by topic.
-pub mod Words
-pub mod Preparing
 pub mod Acceptance
-pub mod Compared
+pub mod Accepting
 pub mod Asked
 pub mod Lent
 pub mod Indexing

@@ -2,6 +2,5 @@
 --
 -- which table is accepted, and what comes of a call's questions
 pub mod Questions
--- inside: what the functions say
+-- inside: what stands in an accepted table
 pub mod Own
-pub mod Parts

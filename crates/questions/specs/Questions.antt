@@ -1,7 +1,9 @@
 -- Which table is accepted, and what comes of the questions that a call puts.
 -- Assumes nothing.
-use Rattle.std.specs.Prelude.{Bool, cond, List, [], ◌∷◌, ℕ, zero, suc, leb}
+use Rattle.std.specs.Prelude.{Bool, cond, List, [], ◌∷◌, ℕ, zero, suc, leb, Result, Ok, Err}
 use Rattle.lists.specs.Question.{first_unmet}
+use Rattle.unmet.specs.declared.Unmet.{Unmet}
+use Rattle.unmet.specs.Number.{number_of}
 use Rattle.planning.specs.Table.{Table}
 use Rattle.planning.specs.Place.{root_place, nodes}
 use Rattle.planning.specs.Variable.{variables}
@@ -58,3 +60,8 @@ module _ {A : Type 0} where
 pub data HandedBack : Type 0 where
   turned_down : ℕ → HandedBack
   taken : List ℕ → HandedBack
+
+-- and that as a call's result: the question, or what has these values
+abbrev pub handed : {A : Type 0} → (A → List ℕ) → Result A Unmet → HandedBack
+handed values (Ok a) = taken (values a)
+handed values (Err q) = turned_down (number_of q)

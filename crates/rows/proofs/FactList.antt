@@ -3,29 +3,22 @@
 use mathlib.Core.Path.{◌≡◌, refl, sym, ap, ◌∙◌}
 use mathlib.Core.Bool.{Bool, true, false, not, ◌&&◌, ◌||◌}
 use mathlib.Core.List.{List, [], ◌∷◌, map}
-use Prim.Native.Nat.{ℕ, ◌+◌, ◌/◌, ◌≤◌, ◌<◌, ◌*◌}
+use Prim.Native.Nat.{ℕ, ◌/◌, ◌≤◌, ◌<◌, ◌*◌}
 use native.Mathlib.Omega.{arith}
 use lib.Dec.{eqb}
 use lib.ListN.{length, replicate, length-replicate}
-use lib.Seq.{slice}
 use borrow.Author.Tests.{lt-ltb, eq-eqb, ne_eqb, eqb-true}
 use Rattle.lists.specs.List.{all, has, up_to, none_twice, filter}
-use Rattle.lists.proofs.Bool.{and_on, or_off, clash, and_l}
+use Rattle.lists.proofs.Bool.{and_on, or_off, and_l}
 use Rattle.lists.proofs.Member.{filter_same, has_not, in_map_out, all_out}
-use Rattle.lists.proofs.Order.{ne_lt}
+use Rattle.lists.proofs.Place.{filter_enough}
 use Rattle.bitset.specs.Set.{contains, inserted}
 use Rattle.bitset.proofs.Promises.{promises}
-use Rattle.lines.specs.Parts.{split}
-use Rattle.lines.specs.Cut.{Cut}
-use Rattle.lines.proofs.Cutting.{cut_first, cut_last, cut_more}
-use Rattle.grammar.specs.Byte.{comma}
-use Rattle.grammar.specs.Name.{Name, is_hyphen, names_in}
+use Rattle.grammar.specs.Name.{Name}
 use Rattle.outline.specs.Names.{among, number_of}
-use Rattle.outline.proofs.Names.{among_in, among_out}
 use Rattle.rows.specs.Uses.{are_facts, facts_of}
 use Rattle.rows.specs.Answers.{FactsMean}
-use Rattle.lists.proofs.Place.{filter_enough}
-use Rattle.rows.proofs.Counts.{number_in}
+use Rattle.rows.proofs.Counts.{number_lt}
 
 -- the names are facts, none of them twice and none of them among ds
 unfoldable pub ok_from : List Name → List ℕ → List Name → Bool
@@ -102,23 +95,23 @@ pub record Adding (n : ℕ) (fs every ms : List Name) (ws : List ℕ) : Type 0 w
 no_member : (n k : ℕ) → contains (replicate n 0) k ≡ false
 no_member n k = promises.member (replicate n 0) k ∙ ap (λ (l : List ℕ). has l k) (promises.made n [] tt)
 
-pub adding_first : (n : ℕ) (fs ms : List Name) → Adding n fs ms ms (replicate n 0)
-adding_first n fs ms = record { done = []; told = ok_facts fs ms; word = no_member n; sum = λ k. refl; wide = length-replicate n 0 }
+pub adding_first : (n : ℕ) (fs every ms : List Name) → every ≡ ms → Adding n fs every ms (replicate n 0)
+adding_first n fs every ms e =
+    rw e (record { done = []; told = ok_facts fs ms; word = no_member n; sum = λ k. refl; wide = length-replicate n 0 })
 
-module _ {n : ℕ} {fs every ms : List Name} {m : Name} {ws : List ℕ} (u : Adding n fs every (m ∷ ms) ws) where
-  pub adding_out : length fs ≤ number_of fs m → false ≡ are_facts fs every
+module _ {n : ℕ} {fs every ns ms : List Name} {m : Name} {ws : List ℕ} (v : Adding n fs every ns ws) (q : ns ≡ m ∷ ms) where
+  u : Adding n fs every (m ∷ ms) ws
+  u = rw q at v
+
+  pub adding_out : among fs m ≡ false → are_facts fs every ≡ false
   unfolding ok_from
-  adding_out h = let e : ok_from fs u.done (m ∷ ms) ≡ false = rw (among_out fs m h) in sym e ∙ u.told
+  adding_out h = let e : ok_from fs u.done (m ∷ ms) ≡ false = rw h in sym u.told ∙ e
 
-  pub adding_twice : number_of fs m < length fs → contains ws (number_of fs m) ≡ true → false ≡ are_facts fs every
-  unfolding ok_from
-  adding_twice h t = let e : ok_from fs u.done (m ∷ ms) ≡ false = rw (among_in fs m h, sym (u.word (number_of fs m)) ∙ t) in sym e ∙ u.told
-
-  pub adding_more : number_of fs m < length fs → length fs ≤ 64 * n → contains ws (number_of fs m) ≡ false → Adding n fs every ms (inserted ws (number_of fs m))
-  adding_more h l t =
+  one_more : among fs m ≡ true → length fs ≤ 64 * n → contains ws (number_of fs m) ≡ false → Adding n fs every ms (inserted ws (number_of fs m))
+  one_more h l t =
       let k = number_of fs m in
-      let z : k / 64 < length ws = omega (arith, u.wide) in
-      let e : ok_from fs u.done (m ∷ ms) ≡ ok_from fs (k ∷ u.done) ms = unfold ok_from in rw (among_in fs m h, sym (u.word k) ∙ t) in
+      let z : k / 64 < length ws = omega (arith, u.wide, number_lt fs m h) in
+      let e : ok_from fs u.done (m ∷ ms) ≡ ok_from fs (k ∷ u.done) ms = unfold ok_from in rw (h, sym (u.word k) ∙ t) in
       record {
         done = k ∷ u.done;
         told = sym e ∙ u.told;
@@ -133,71 +126,35 @@ module _ {n : ℕ} {fs every ms : List Name} {m : Name} {ws : List ℕ} (u : Add
       or_comm false true = refl
       or_comm false false = refl
 
+  -- the name is that of fact k
+  module _ {k : ℕ} (f : (among fs m ≡ true) × (k ≡ number_of fs m)) where
+    pub adding_twice : contains ws k ≡ true → are_facts fs every ≡ false
+    unfolding ok_from
+    adding_twice t = let e : ok_from fs u.done (m ∷ ms) ≡ false = rw (f.0, ← f.1, ← u.word k, t) in sym u.told ∙ e
+
+    pub adding_more : length fs ≤ 64 * n → contains ws k ≡ false → Adding n fs every ms (inserted ws k)
+    adding_more l t = rw f.1 (one_more f.0 l (rw f.1 at t))
+
 -- no number of a declared fact lies at or past their count
 past_none : (fs every : List Name) → are_facts fs every ≡ true → (k : ℕ) → length fs ≤ k → has (map (number_of fs) every) k ≡ false
 unfolding are_facts
 past_none fs every e k h = has_not (map (number_of fs) every) k (λ i.
     let r = in_map_out (number_of fs) k every i in
     let a = all_out (among fs) every (and_l (all (among fs) every) (none_twice eqb (map (number_of fs) every)) e) r.0 r.1 in
-    let l = number_in fs r.0 a in
+    let l = number_lt fs r.0 a in
     omega (arith, r.2))
 
-pub adding_done : {n : ℕ} {fs every : List Name} {ws : List ℕ} → length fs ≤ 64 * n → Adding n fs every [] ws → FactsMean n fs every true ws
+pub adding_done : {n : ℕ} {fs every : List Name} {ws : List ℕ} → length fs ≤ 64 * n → Adding n fs every [] ws
+    → (are_facts fs every ≡ true) × FactsMean n fs every ws
 unfolding ok_from facts_of
 adding_done {n} {fs} {every} {ws} l u =
     let p = has (map (number_of fs) every) in
     let w : 64 * length ws ≡ 64 * n = omega (arith, u.wide) in
-    record {
-      told = u.told;
-      set = λ e. filter_same (contains ws) p (up_to (64 * length ws)) (λ k i. u.word k ∙ sym (or_off (has u.done k)) ∙ u.sum k)
-          ∙ ap (λ (k : ℕ). filter p (up_to k)) w ∙ filter_enough p (64 * n) (length fs) l (past_none fs every e);
-      wide = u.wide;
-    }
-
-pub facts_off : {n : ℕ} {fs every : List Name} {ws : List ℕ} → length ws ≡ n → false ≡ are_facts fs every → FactsMean n fs every false ws
-facts_off w e = record { told = e; set = λ t. clash t (sym e); wide = w }
-
--- The scan of the list from a up to b: i is where the names left begin -------------------------------------------------------
-pub record Listing (n : ℕ) (fs : List Name) (s : List ℕ) (a b i : ℕ) (ws : List ℕ) : Type 0 where
-  pub low : a ≤ i
-  pub high : i ≤ b
-  pub adding : Adding n fs (split comma (slice a b s)) (split comma (slice i b s)) ws
-
-pub listing_first : (n : ℕ) (fs : List Name) (s : List ℕ) (a b : ℕ) → a ≤ b → Listing n fs s a b a (replicate n 0)
-listing_first n fs s a b h = record { low = omega arith; high = h; adding = adding_first n fs (split comma (slice a b s)) }
-
-module _ {n : ℕ} {fs : List Name} {s : List ℕ} {a b i e k : ℕ} {ws : List ℕ} (u : Listing n fs s a b i ws) (c : Cut comma s i b e) (h : b ≤ length s)
-    (q : k ≡ number_of fs (slice i e s)) where
-  here : (ps : List (List ℕ)) × Adding n fs (split comma (slice a b s)) (slice i e s ∷ ps) ws
-  here = ((cut_first c h).0, rw (cut_first c h).1 at u.adding)
-
-  pub listing_out : length fs ≤ k → false ≡ are_facts fs (split comma (slice a b s))
-  listing_out l = adding_out here.1 (omega arith)
-
-  module _ (l : k < length fs) where
-    pub listing_twice : contains ws k ≡ true → false ≡ are_facts fs (split comma (slice a b s))
-    listing_twice t = adding_twice here.1 (omega arith) (rw (← q) t)
-
-    module _ (m : length fs ≤ 64 * n) (t : contains ws k ≡ false) where
-      pub listing_last : e ≡ b → FactsMean n fs (split comma (slice a b s)) true (inserted ws k)
-      listing_last y =
-          let z : Adding n fs (split comma (slice a b s)) (slice i e s ∷ []) ws = rw (y, ← cut_last c h y) u.adding in
-          rw q (adding_done m (adding_more z (omega arith) m (rw (← q) t)))
-
-      pub listing_more : (e ≡ b → ⊥) → Listing n fs s a b (e + 1) (inserted ws k)
-      listing_more y =
-          let o : e < b = ne_lt c.high y in
-          record {
-            low = omega (arith, u.low, c.low);
-            high = omega arith;
-            adding = rw q (adding_more (rw (cut_more c h o) at u.adding) (omega arith) m (rw (← q) t));
-          }
-
--- a list of names is the lone hyphen or what commas part
-pub names_hyphen : (n : ℕ) (fs : List Name) (f : List ℕ) (r : Bool) → length fs ≤ 64 * n → r ≡ is_hyphen f → r ≡ true → FactsMean n fs (names_in f) true (replicate n 0)
-unfolding names_in
-names_hyphen n fs f r l e y = rw (← e, y) (adding_done l (adding_first n fs []))
-
-pub names_parts : {n : ℕ} {fs : List Name} {ok : Bool} {ws : List ℕ} (f : List ℕ) (r : Bool) → r ≡ is_hyphen f → r ≡ false → FactsMean n fs (split comma f) ok ws → FactsMean n fs (names_in f) ok ws
-unfolding names_in
-names_parts f r e n u = rw (← e, n) u
+    let e : are_facts fs every ≡ true = sym u.told in (
+      e,
+      record {
+        set = filter_same (contains ws) p (up_to (64 * length ws)) (λ k i. u.word k ∙ sym (or_off (has u.done k)) ∙ u.sum k)
+            ∙ ap (λ (k : ℕ). filter p (up_to k)) w ∙ filter_enough p (64 * n) (length fs) l (past_none fs every e);
+        wide = u.wide;
+      },
+    )

@@ -1,61 +1,76 @@
--- Words stored from a place on.
--- A store keeps the places before its own, and what was stored stands as long as its places are kept.
-use mathlib.Core.Path.{◌≡◌, refl, sym, ap, ◌∙◌}
-use mathlib.Core.List.{List, [], ◌∷◌}
-use Prim.Native.Nat.{ℕ, zero, suc, ◌+◌, ◌*◌, ◌≤◌, ◌<◌}
+-- Words in part of a list, and words put into part of one.
+-- What stands in the part stands in the whole, and what is put into a part leaves the words before it.
+use mathlib.Core.Path.{◌≡◌, sym, ap, ◌∙◌}
+use mathlib.Core.List.{List, [], ◌++◌}
+use Prim.Native.Nat.{ℕ, ◌+◌, ◌*◌, ◌≤◌, ◌<◌}
 use native.Mathlib.Omega.{arith}
-use lib.ListN.{length, get_or, drop, set, length-set, length-map}
-use lib.Seq.{get_or-set_same, get_or-set_other, drop-cons, drop-length}
+use lib.ListN.{length, get_or, take, length-map, length-take, get_or-append}
+use lib.Seq.{get_or-append-add, get_or-take}
 use Rattle.lists.specs.List.{up_to}
 use Rattle.lists.proofs.Number.{length_from}
 use Rattle.lists.proofs.Place.{listed, get_d_map_from}
 use Rattle.bitset.specs.Set.{members}
-use Rattle.rows.specs.Words.{step_words, words_at, set_at, step_at, stored, Kept, fact_words}
+use Rattle.rows.specs.Words.{fact_words, step_words, words_at, set_at, step_at, Kept}
 
-pub length_stored : (l : List ℕ) (k : ℕ) (xs : List ℕ) → length (stored l k xs) ≡ length l
-length_stored l k [] = refl
-length_stored l k (x ∷ xs) = length_stored (set l k x) (suc k) xs ∙ length-set l k x
+-- o has the words of xs from the place k on
+pub record Has (xs : List ℕ) (k : ℕ) (o : List ℕ) : Type 0 where
+  pub at : (i : ℕ) → i < length xs → get_or o (k + i) 0 ≡ get_or xs i 0
 
-before : (l : List ℕ) (k : ℕ) (xs : List ℕ) (i : ℕ) → i < k → get_or (stored l k xs) i 0 ≡ get_or l i 0
-before l k [] i h = refl
-before l k (x ∷ xs) i h = before (set l k x) (suc k) xs i (omega arith) ∙ get_or-set_other l k i x 0 (λ e. omega arith)
+-- xs put between ys and zs
+module _ (ys xs zs : List ℕ) where
+  pub has_mid : Has xs (length ys) (ys ++ (xs ++ zs))
+  has_mid = record { at = λ i h. get_or-append-add ys (xs ++ zs) i 0 ∙ get_or-append xs zs 0 i h }
 
-pub stored_in : (l : List ℕ) (k : ℕ) (xs : List ℕ) (i : ℕ) → i < length xs → k + length xs ≤ length l → get_or (stored l k xs) (k + i) 0 ≡ get_or xs i 0
-stored_in l k [] i h r = absurd (omega arith)
-stored_in l k (x ∷ xs) zero h r =
-    let z : k + 0 ≡ k = omega arith in
-    rw z (before (set l k x) (suc k) xs k (omega arith) ∙ get_or-set_same l k x 0 (omega arith))
-stored_in l k (x ∷ xs) (suc i) h r =
-    let z : k + suc i ≡ suc k + i = omega arith in
-    rw z (stored_in (set l k x) (suc k) xs i (omega arith) (omega (arith, length-set l k x)))
+-- what stands in the later part of a list
+pub has_later : (xs o : List ℕ) (zs : List ℕ) (m : ℕ) {n k : ℕ} → length xs ≡ n → k ≡ n + m → Has zs m o → Has zs k (xs ++ o)
+has_later xs o zs m {n} {k} e d u = record {
+  at = λ i h. let z : k + i ≡ length xs + (m + i) = omega (arith, e, d) in rw z (get_or-append-add xs o (m + i) 0 ∙ u.at i h);
+}
 
--- two words, one behind the other
-module _ (o : List ℕ) (k x y : ℕ) where
-  pub pair_other : (p : ℕ) → (p ≡ k → ⊥) → (p ≡ k + 1 → ⊥) → get_or (set (set o k x) (k + 1) y) p 0 ≡ get_or o p 0
-  pair_other p a b = get_or-set_other (set o k x) (k + 1) p y 0 (λ q. b (omega (arith, q))) ∙ get_or-set_other o k p x 0 (λ q. a (omega (arith, q)))
+pub has_first : (xs zs : List ℕ) → Has xs 0 (xs ++ zs)
+has_first xs zs = has_mid [] xs zs
 
-  pub pair_first : k < length o → get_or (set (set o k x) (k + 1) y) k 0 ≡ x
-  pair_first h = get_or-set_other (set o k x) (k + 1) k y 0 (λ q. omega arith) ∙ get_or-set_same o k x 0 h
+pub has_all : (xs : List ℕ) → Has xs 0 xs
+has_all xs = record { at = λ i h. let z : 0 + i ≡ i = omega arith in ap (λ (j : ℕ). get_or xs j 0) z }
 
-  pub pair_second : k + 1 < length o → get_or (set (set o k x) (k + 1) y) (k + 1) 0 ≡ y
-  pair_second h = get_or-set_same (set o k x) (k + 1) y 0 (omega (arith, length-set o k x))
+-- put into o from the place k on
+module _ (k : ℕ) (o xs bs : List ℕ) (h : k ≤ length o) where
+  long : length (take k o) ≡ k
+  long = omega (arith, length-take k o)
 
--- Places kept ------------------------------------------------------------------------------------------------------------------
-pub kept_all : (n : ℕ) (o : List ℕ) → Kept n o o
-kept_all n o = record { at = λ p h. refl }
+  pub has_put : Has xs k (take k o ++ (xs ++ bs))
+  has_put = rw long at (has_mid (take k o) xs bs)
 
-pub kept_stored : {o o' : List ℕ} {k : ℕ} (xs : List ℕ) → o' ≡ stored o k xs → Kept k o o'
-kept_stored {o} {o'} {k} xs e = record { at = λ p h. ap (λ (w : List ℕ). get_or w p 0) e ∙ before o k xs p h }
+  pub kept_put : Kept k o (take k o ++ (xs ++ bs))
+  kept_put = record { at = λ p g. get_or-append (take k o) (xs ++ bs) 0 p (omega (arith, long)) ∙ get_or-take k o p 0 g }
 
-pub kept_both : {n k : ℕ} {a b c : List ℕ} → n ≤ k → Kept n a b → Kept k b c → Kept n a c
-kept_both h u w = record { at = λ p l. w.at p (omega arith) ∙ u.at p l }
+-- words, sets and steps that stand there
+pub words_has : (xs o : List ℕ) (k : ℕ) {n : ℕ} → length xs ≡ n → Has xs k o → words_at o k n ≡ xs
+words_has xs o k {n} e u = listed (λ i. get_or o (k + i) 0) 0 n xs (sym e) (λ i h. u.at i (omega arith))
 
--- what was stored stands
-pub words_stand : {o₁ o' : List ℕ} {n : ℕ} (o : List ℕ) (p m : ℕ) (xs : List ℕ) → o₁ ≡ stored o p xs → length xs ≡ m → p + m ≤ length o → p + m ≤ n → Kept n o₁ o'
-    → words_at o' p m ≡ xs
-words_stand {o₁} {o'} {n} o p m xs q e h l k =
-    listed (λ i. get_or o' (p + i) 0) 0 m xs (sym e)
-    (λ i g. k.at (p + i) (omega arith) ∙ ap (λ (w : List ℕ). get_or w (p + i) 0) q ∙ stored_in o p xs i (omega (arith, e)) (omega (arith, e)))
+module _ (xs o : List ℕ) (k p : ℕ) (u : Has xs k o) where
+  pub words_in : (n : ℕ) → p + n ≤ length xs → words_at o (k + p) n ≡ words_at xs p n
+  words_in n h =
+      listed (λ i. get_or o (k + p + i) 0) 0 n (words_at xs p n) (sym (length-map (up_to n) (λ i. get_or xs (p + i) 0) ∙ length_from 0 n))
+      (λ i g. let z : k + p + i ≡ k + (p + i) = omega arith in
+      rw z (u.at (p + i) (omega arith) ∙ sym (get_d_map_from (λ i. get_or xs (p + i) 0) 0 n i 0 g ∙ ap (λ (j : ℕ). get_or xs (p + j) 0) (plain i))))
+    where
+      plain : (i : ℕ) → 0 + i ≡ i
+      plain i = omega arith
+
+  pub set_in : p + fact_words ≤ length xs → set_at o (k + p) ≡ set_at xs p
+  set_in h = ap members (words_in fact_words h)
+
+pub step_in : (xs o : List ℕ) (k p : ℕ) → Has xs k o → p + step_words ≤ length xs → step_at o (k + p) ≡ step_at xs p
+step_in xs o k p u h =
+    let a = set_in xs o k p u (omega arith) in
+    let b = set_in xs o k (p + fact_words) u (omega arith) in
+    let c = set_in xs o k (p + 2 * fact_words) u (omega arith) in
+    let y : k + (p + fact_words) ≡ k + p + fact_words = omega arith in
+    let z : k + (p + 2 * fact_words) ≡ k + p + 2 * fact_words = omega arith in
+    let b' = rw y at b in
+    let c' = rw z at c in
+    λ i. record { needs = a i; sets = b' i; clears = c' i }
 
 pub words_kept : {o o' : List ℕ} {n : ℕ} (p m : ℕ) → p + m ≤ n → Kept n o o' → words_at o' p m ≡ words_at o p m
 words_kept {o} {o'} {n} p m h k =
@@ -65,38 +80,9 @@ words_kept {o} {o'} {n} p m h k =
     plain : (i : ℕ) → 0 + i ≡ i
     plain i = omega arith
 
-pub set_kept : {o o' : List ℕ} {n : ℕ} (p : ℕ) → p + fact_words ≤ n → Kept n o o' → set_at o' p ≡ set_at o p
-set_kept p h k = ap members (words_kept p fact_words h k)
-
 pub step_kept : {o o' : List ℕ} {n : ℕ} (p : ℕ) → p + step_words ≤ n → Kept n o o' → step_at o' p ≡ step_at o p
 step_kept p h k =
-    let a = set_kept p (omega arith) k in
-    let b = set_kept (p + fact_words) (omega arith) k in
-    let c = set_kept (p + 2 * fact_words) (omega arith) k in
+    let a = ap members (words_kept p fact_words (omega arith) k) in
+    let b = ap members (words_kept (p + fact_words) fact_words (omega arith) k) in
+    let c = ap members (words_kept (p + 2 * fact_words) fact_words (omega arith) k) in
     λ i. record { needs = a i; sets = b i; clears = c i }
-
--- A loop that stores word after word: i of the words ws are stored ------------------------------------------------------------------
-pub record Storing (o₀ : List ℕ) (at : ℕ) (ws o : List ℕ) (i : ℕ) : Type 0 where
-  pub few : i ≤ length ws
-  pub same : length o ≡ length o₀
-  pub left : stored o (at + i) (drop i ws) ≡ stored o₀ at ws
-
-pub storing_first : (o : List ℕ) (at : ℕ) (ws : List ℕ) → Storing o at ws o 0
-storing_first o at ws =
-    let z : at + 0 ≡ at = omega arith in
-    record { few = omega arith; same = refl; left = ap (λ (k : ℕ). stored o k ws) z }
-
-pub storing_more : {o₀ : List ℕ} {at : ℕ} {ws o : List ℕ} {i : ℕ} → Storing o₀ at ws o i → i < length ws → Storing o₀ at ws (set o (at + i) (get_or ws i 0)) (i + 1)
-storing_more {o₀} {at} {ws} {o} {i} u h =
-    let z : at + (i + 1) ≡ suc (at + i) = omega arith in
-    let y : i + 1 ≡ suc i = omega arith in
-    record {
-      few = omega arith;
-      same = length-set o (at + i) (get_or ws i 0) ∙ u.same;
-      left = rw (z, y) (rw (drop-cons ws i 0 h) at u.left);
-    }
-
-pub storing_done : {o₀ : List ℕ} {at : ℕ} {ws o : List ℕ} {i : ℕ} → Storing o₀ at ws o i → length ws ≤ i → o ≡ stored o₀ at ws
-storing_done {o₀} {at} {ws} {o} {i} u h =
-    let z : i ≡ length ws = omega (arith, u.few) in
-    rw (z, drop-length ws) at u.left

@@ -1,6 +1,6 @@
 -- The words that a set of facts, a step and a method are kept as, from a place on; where they stand in a table is crate `table`'s specs/Layout.
 -- Past the last word of a list there are zeros. Assumes nothing.
-use Rattle.std.specs.Prelude.{◌≡◌, cond, List, [], ◌∷◌, map, ℕ, suc, ◌+◌, ◌-◌, ◌*◌, ◌<◌, min, ltb, get_or, set}
+use Rattle.std.specs.Prelude.{◌≡◌, cond, List, map, ℕ, ◌+◌, ◌-◌, ◌*◌, ◌<◌, min, ltb, get_or}
 use Rattle.lists.specs.List.{up_to}
 use Rattle.bitset.specs.Set.{members}
 use Rattle.planning.specs.Table.{Task, step, job, Step, Method, most_in_body}
@@ -38,11 +38,6 @@ abbrev pub method_at : (n : ℕ) → List ℕ → ℕ → Method
 method_at n ws p = record { of = get_or ws p 0; body = map (λ j. task_at n (get_or ws (p + 2 + j) 0)) (up_to (size_at ws p)) }
 
 -- Inside the reader, nothing to believe: what is written ------------------------------------------------------------------------
--- l with xs stored from the place k on
-abbrev pub stored : List ℕ → ℕ → List ℕ → List ℕ
-stored l k [] = l
-stored l k (x ∷ xs) = stored (set l k x) (suc k) xs
-
 -- the places below n have the words that they had
 pub record Kept (n : ℕ) (o o' : List ℕ) : Type 0 where
   pub at : (p : ℕ) → p < n → get_or o' p 0 ≡ get_or o p 0

@@ -1,21 +1,26 @@
-// The lines of a table file as words, and question 7: fact lists as sets, bodies as tasks, the start, the root job and the depth. What
-// looks a name up asks that questions 2 to 6 are met (`Ready`); the read of crate `table` puts them first. Each `put_` function writes words
-// from a place on and leaves those before it as they were. Inside the reader, as crate `grammar` is.
+// The lines of a table file as words, and question 7: fact lists as sets, bodies as tasks, the start, the root job and the depth. Names are
+// looked up in the outline of a file that meets questions 2 to 6. Each `put_` function fills the words that it is lent; where question 7 is not
+// met, it says that question and what stands in them all the same. Inside the reader, as crate `grammar` is.
 #![tactic(auto)]
 
-ghost use Rattle.std.specs.Prelude.{◌≡◌, ◌&&◌, ◌+◌, ◌-◌, ◌*◌, ◌≤◌, length, get_or};
-ghost use Rattle.std.proofs.Math.Seq.{slice};
-ghost use Rattle.lines.specs.Parts.{lines_of};
+ghost use Rattle.std.specs.Prelude.{◌≡◌, [], ◌&&◌, ◌+◌, ◌-◌, ◌*◌, ◌≤◌, length, get_or, MatchOption, ⊤};
+ghost use Rattle.lists.specs.List.{all};
+ghost use Rattle.lines.specs.Parts.{split};
+ghost use Rattle.grammar.specs.Byte.{comma};
 ghost use Rattle.grammar.specs.Name.{names_in};
-ghost use Rattle.grammar.specs.Line.{body_in};
-ghost use Rattle.outline.specs.Sections.{sections};
-ghost use Rattle.outline.specs.Names.{fact, job, task, declared};
-ghost use Rattle.rows.specs.Words.{fact_words, step_words, method_words, stored};
-ghost use Rattle.rows.specs.Answers.{Ready, FactsMean, StepMeans, StepPut, StepsPut, BodyPut, MethodPut, MethodsPut, EndsMean};
+ghost use Rattle.grammar.specs.Line.{name_in, body_in, start_in};
+ghost use Rattle.outline.specs.Sections.{start_line, root_line};
+ghost use Rattle.outline.specs.Index.{bytes_of};
+ghost use Rattle.outline.specs.Names.{among, number_of, fact, job, task, declared};
+ghost use Rattle.outline.specs.Outlined.{kind_of};
+ghost use Rattle.rows.specs.Uses.{are_facts, uses_facts, uses_tasks};
+ghost use Rattle.rows.specs.Words.{fact_words, step_words, method_words};
+ghost use Rattle.rows.specs.Answers.{sections_of, Asked, FactsMean, StepStands, StepsStand, BodyStands, MethodStands, MethodsStand, EndsMean};
 
-use grammar::{field_at, is_hyphen};
-use lines::cut;
-use outline::{Kind, MOST_IN_BODY, Places, Shape, look_up};
+use grammar::{count_names, field_at, is_hyphen};
+use lines::{next_line, split_first};
+use outline::{Kind, MOST_IN_BODY, Outline};
+use unmet::Unmet;
 
 // The words of a set of facts, 64 facts a word; of a step, which is three sets; of a method: its job, the size of its body, and its tasks.
 pub const FACT_WORDS: usize = 1;
@@ -26,309 +31,147 @@ pub const METHOD_WORDS: usize = 2 + MOST_IN_BODY;
 
 pub type FactSet = [u64; FACT_WORDS];
 
-// Both: as a call, so that what follows has one way to come.
-pub fn both(a: bool, b: bool) -> bool
-    ensures { result ≡ (a && b) }
+// The number of a name among those declared in the kind wanted: question 7.
+fn number_of(o: &Outline, kind: Kind, name: &[u8]) -> Result<usize, Unmet>
+    ensures { let names = declared (sections_of o.now) (kind_of kind) in
+        Asked (among names name.now) (λ k. k ≡ number_of names name.now) result }
 {
-    if a { b } else { false }
+    o.look_up(kind, name).ok_or(Unmet::Declared)
 }
 
-// A list of facts: whether question 7 is met, and the set.
-#[derive(Clone, Copy)]
-struct Facts {
-    ok: bool,
-    set: FactSet,
+// The names of a list, still to be parted by commas: none in a lone hyphen.
+#[tactic(auto, unfolding(grammar::specs::Name::names_in))]
+fn names_of(list: &[u8]) -> Option<&[u8]>
+    ensures { MatchOption result (names_in list.now ≡ []) (λ names. names_in list.now ≡ split comma names.now) }
+{
+    if is_hyphen(list) { None } else { Some(list) }
 }
 
-// The list of facts from a up to b.
-fn fact_set<'a>(
-    s: &[u8],
-    start: &'a Places,
-    size: &'a Places,
-    h: Shape,
-    a: usize,
-    b: usize,
-) -> Facts
-    requires { Ready s.now h start.now size.now × (a ≤ b) × (b ≤ length s.now) }
-    ensures { FactsMean fact_words (declared (sections (lines_of s.now)) fact) (names_in (slice a b s.now)) result.ok result.set }
+// The facts that a list names, as a set.
+fn fact_set(o: &Outline, list: &[u8]) -> Result<FactSet, Unmet>
+    ensures { let facts = declared (sections_of o.now) fact in
+        Asked (are_facts facts (names_in list.now)) (FactsMean fact_words facts (names_in list.now)) result }
 {
-    let mut w: FactSet = [0; FACT_WORDS];
-    if is_hyphen(s, a, b) {
-        return Facts { ok: true, set: w };
-    }
-    let mut i = a;
-    loop {
-        let e = cut(s, i, b, b',');
-        let k = look_up(s, start, size, h.facts, h.steps, h.jobs, Kind::Fact, i, e);
-        if k >= h.facts {
-            return Facts { ok: false, set: w };
+    let mut set: FactSet = [0; FACT_WORDS];
+    let mut left = names_of(list);
+    while let Some(names) = left {
+        let (name, behind) = split_first(names, b',');
+        let fact = number_of(o, Kind::Fact, name)?;
+        if bitset::has(&set, fact) {
+            return Err(Unmet::Declared);
         }
-        if bitset::has(&w, k) {
-            return Facts { ok: false, set: w };
-        }
-        bitset::insert(&mut w, k);
-        if e == b {
-            return Facts { ok: true, set: w };
-        }
-        i = e + 1;
+        bitset::insert(&mut set, fact);
+        left = behind;
     }
+    Ok(set)
 }
 
-// An S line: whether question 7 is met, and its sets.
-#[derive(Clone, Copy)]
-struct StepSets {
-    ok: bool,
-    needs: FactSet,
-    sets: FactSet,
-    clears: FactSet,
-}
-
-// The S line from a up to b.
-fn step_sets<'a>(
-    s: &[u8],
-    start: &'a Places,
-    size: &'a Places,
-    h: Shape,
-    a: usize,
-    b: usize,
-) -> StepSets
-    requires { Ready s.now h start.now size.now × (a ≤ b) × (b ≤ length s.now) }
-    ensures { StepMeans fact_words (declared (sections (lines_of s.now)) fact) (slice a b s.now) result.ok result.needs result.sets
-        result.clears }
+// An S line as a step's words.
+fn put_step(o: &Outline, line: &[u8], out: &mut [u64]) -> Result<(), Unmet>
+    requires { length out.old ≡ step_words }
+    ensures { let facts = declared (sections_of o.now) fact in Asked (uses_facts facts line.now) (λ _. StepStands facts line.now 0 out.new) result }
 {
-    let f = field_at(s, a, b, 2);
-    let x = fact_set(s, start, size, h, f.from, f.to);
-    let g = field_at(s, a, b, 3);
-    let y = fact_set(s, start, size, h, g.from, g.to);
-    let k = field_at(s, a, b, 4);
-    let z = fact_set(s, start, size, h, k.from, k.to);
-    let needs = x.set;
-    let sets = y.set;
-    let clears = z.set;
-    StepSets {
-        ok: both(x.ok, both(y.ok, z.ok)),
-        needs: needs,
-        sets: sets,
-        clears: clears,
-    }
+    let needs = fact_set(o, field_at(line, 2))?;
+    let sets = fact_set(o, field_at(line, 3))?;
+    let clears = fact_set(o, field_at(line, 4))?;
+    let step = [needs, sets, clears];
+    out.copy_from_slice(step.as_flattened());
+    Ok(())
 }
 
-// The words of a set from the place at on.
-pub fn put_set(out: &mut [u64], at: usize, w: FactSet)
-    requires { at + fact_words ≤ length out.old }
-    ensures { out.new ≡ stored out.old at w }
+// The S lines, one step after the other. Each line's words stand whatever the others say, so the walk goes on past a refusal. By places: with
+// `chunks_exact_mut` the proof did not close, since of what is written through chunks it knows no more than the length.
+pub fn put_steps(o: &Outline, out: &mut [u64]) -> Result<(), Unmet>
+    requires { step_words * o.now.shape.steps.count ≤ length out.old }
+    ensures { let facts = declared (sections_of o.now) fact in let lines = bytes_of (sections_of o.now).steps in
+        Asked (all (uses_facts facts) lines) (λ _. ⊤) result × StepsStand facts lines out.new }
 {
-    let mut i: usize = 0;
-    while i < FACT_WORDS {
-        out[at + i] = w[i];
-        i += 1;
+    let mut met = Ok(());
+    let mut at = 0;
+    let mut text = o.shape.steps.text;
+    while let Some((line, behind)) = next_line(text) {
+        met = met.and(put_step(o, line, &mut out[at..at + STEP_WORDS]));
+        at += STEP_WORDS;
+        text = behind;
     }
+    met
 }
 
-// The S line from a up to b as a step's words: is question 7 met?
-fn put_step<'a>(
-    s: &[u8],
-    start: &'a Places,
-    size: &'a Places,
-    h: Shape,
-    a: usize,
-    b: usize,
-    out: &mut [u64],
-    at: usize,
-) -> bool
-    requires { Ready s.now h start.now size.now × (a ≤ b) × (b ≤ length s.now) × (at + step_words ≤ length out.old) }
-    ensures { StepPut (declared (sections (lines_of s.now)) fact) (slice a b s.now) at out.old out.new result }
+// A body: its tasks' numbers; for a name that is not declared, the count of tasks. Each stands whatever the others say.
+fn put_body(o: &Outline, list: &[u8], out: &mut [u64]) -> Result<(), Unmet>
+    requires { length (names_in list.now) ≤ length out.old }
+    ensures { let tasks = declared (sections_of o.now) task in
+        Asked (all (among tasks) (names_in list.now)) (λ _. ⊤) result × BodyStands tasks (names_in list.now) out.new }
 {
-    let x = step_sets(s, start, size, h, a, b);
-    let needs = x.needs;
-    let sets = x.sets;
-    let clears = x.clears;
-    put_set(out, at, needs);
-    put_set(out, at + FACT_WORDS, sets);
-    put_set(out, at + 2 * FACT_WORDS, clears);
-    x.ok
+    let count = o.shape.steps.count + o.shape.jobs;
+    let mut met = Ok(());
+    let mut size = 0;
+    let mut left = names_of(list);
+    while let Some(names) = left {
+        let (name, behind) = split_first(names, b',');
+        let task = number_of(o, Kind::Task, name);
+        out[size] = task.unwrap_or(count) as u64;
+        met = task.and(met);
+        size += 1;
+        left = behind;
+    }
+    met
 }
 
-// The S lines, one step after the other.
-pub fn put_steps<'a>(
-    s: &[u8],
-    start: &'a Places,
-    size: &'a Places,
-    h: Shape,
-    out: &mut [u64],
-    at: usize,
-) -> bool
-    requires { Ready s.now h start.now size.now × (at + step_words * h.steps ≤ length out.old) }
-    ensures { StepsPut (declared (sections (lines_of s.now)) fact) (sections (lines_of s.now)).steps at out.old
-        out.new result }
+// An M line as a method's words; for a job that is not declared, the count of jobs.
+fn put_method(o: &Outline, line: &[u8], out: &mut [u64]) -> Result<(), Unmet>
+    requires { 2 + length (body_in line.now) ≤ length out.old }
+    ensures { let jobs = declared (sections_of o.now) job in let tasks = declared (sections_of o.now) task in
+        Asked (uses_tasks jobs tasks line.now) (λ _. ⊤) result × MethodStands jobs tasks line.now 0 out.new }
 {
-    let mut ok = true;
-    let mut i = 0;
-    let mut a = h.steps_at;
-    while i < h.steps {
-        let b = cut(s, a, s.len(), b'\n');
-        let met = put_step(s, start, size, h, a, b, out, at + STEP_WORDS * i);
-        ok = both(ok, met);
-        i += 1;
-        a = b + 1;
-    }
-    ok
+    let job = number_of(o, Kind::Job, field_at(line, 1));
+    let body = field_at(line, 2);
+    out[0] = job.unwrap_or(o.shape.jobs) as u64;
+    out[1] = count_names(body) as u64;
+    job.and(put_body(o, body, &mut out[2..]))
 }
 
-// A body: whether question 7 is met, and how many tasks it has.
-#[derive(Clone, Copy)]
-struct Body {
-    ok: bool,
-    size: usize,
-}
-
-// The body from a up to b: its tasks' numbers.
-fn put_body<'a>(
-    s: &[u8],
-    start: &'a Places,
-    size: &'a Places,
-    h: Shape,
-    a: usize,
-    b: usize,
-    out: &mut [u64],
-    at: usize,
-) -> Body
-    requires { Ready s.now h start.now size.now × (a ≤ b) × (b ≤ length s.now)
-        × (at + length (names_in (slice a b s.now)) ≤ length out.old) }
-    ensures { BodyPut (declared (sections (lines_of s.now)) task) (names_in (slice a b s.now)) at out.old
-        out.new result.ok result.size }
+// The M lines, one method after the other, past refusals as well. A loop beside that of `put_steps`: one for both would take a closure, and ask
+// for all that the two lines' functions say in clauses of its own, which is no plainer.
+pub fn put_methods(o: &Outline, out: &mut [u64]) -> Result<(), Unmet>
+    requires { method_words * o.now.shape.methods.count ≤ length out.old }
+    ensures { let jobs = declared (sections_of o.now) job in let tasks = declared (sections_of o.now) task in
+        let lines = bytes_of (sections_of o.now).methods in
+        Asked (all (uses_tasks jobs tasks) lines) (λ _. ⊤) result × MethodsStand jobs tasks lines out.new }
 {
-    if is_hyphen(s, a, b) {
-        return Body { ok: true, size: 0 };
+    let mut met = Ok(());
+    let mut at = 0;
+    let mut text = o.shape.methods.text;
+    while let Some((line, behind)) = next_line(text) {
+        met = met.and(put_method(o, line, &mut out[at..at + METHOD_WORDS]));
+        at += METHOD_WORDS;
+        text = behind;
     }
-    let mut ok = true;
-    let mut n = 0;
-    let mut i = a;
-    loop {
-        let e = cut(s, i, b, b',');
-        let k = look_up(s, start, size, h.facts, h.steps, h.jobs, Kind::Task, i, e);
-        ok = both(ok, k < h.steps + h.jobs);
-        out[at + n] = k as u64;
-        n += 1;
-        if e == b {
-            return Body { ok: ok, size: n };
-        }
-        i = e + 1;
-    }
+    met
 }
 
-// The M line from a up to b as a method's words: is question 7 met?
-fn put_method<'a>(
-    s: &[u8],
-    start: &'a Places,
-    size: &'a Places,
-    h: Shape,
-    a: usize,
-    b: usize,
-    out: &mut [u64],
-    at: usize,
-) -> bool
-    requires { Ready s.now h start.now size.now × (a ≤ b) × (b ≤ length s.now) × (at + 2 + length (body_in (slice a b s.now)) ≤ length out.old) }
-    ensures { MethodPut (declared (sections (lines_of s.now)) job) (declared (sections (lines_of s.now)) task)
-        (slice a b s.now) at out.old out.new result }
+// The number that the first byte of the field says as a digit.
+fn digit_of(field: &[u8]) -> usize
+    ensures { result ≡ get_or field.now 0 0 - 48 }
 {
-    let f = field_at(s, a, b, 1);
-    let j = look_up(
-        s,
-        start,
-        size,
-        h.facts,
-        h.steps,
-        h.jobs,
-        Kind::Job,
-        f.from,
-        f.to,
-    );
-    let g = field_at(s, a, b, 2);
-    let t = put_body(s, start, size, h, g.from, g.to, out, at + 2);
-    out[at] = j as u64;
-    out[at + 1] = t.size as u64;
-    both(j < h.jobs, t.ok)
+    let digit = field.first().copied().unwrap_or(0);
+    usize::from(digit.saturating_sub(b'0'))
 }
 
-// The M lines, one method after the other.
-pub fn put_methods<'a>(
-    s: &[u8],
-    start: &'a Places,
-    size: &'a Places,
-    h: Shape,
-    out: &mut [u64],
-    at: usize,
-) -> bool
-    requires { Ready s.now h start.now size.now × (at + method_words * h.methods ≤ length out.old) }
-    ensures { MethodsPut (declared (sections (lines_of s.now)) job) (declared (sections (lines_of s.now)) task)
-        (sections (lines_of s.now)).methods at out.old out.new result }
-{
-    let mut ok = true;
-    let mut i = 0;
-    let mut a = h.methods_at;
-    while i < h.methods {
-        let b = cut(s, a, s.len(), b'\n');
-        let m = put_method(s, start, size, h, a, b, out, at + METHOD_WORDS * i);
-        ok = both(ok, m);
-        i += 1;
-        a = b + 1;
-    }
-    ok
-}
-
-// The number that the first byte of the part from a up to b says as a digit.
-fn digit_of(s: &[u8], a: usize, b: usize) -> usize
-    requires { (a ≤ b) × (b ≤ length s.now) }
-    ensures { result ≡ get_or (slice a b s.now) 0 0 - 48 }
-{
-    if a == b {
-        return 0;
-    }
-    if s[a] < b'0' {
-        return 0;
-    }
-    (s[a] - b'0') as usize
-}
-
-// The I line and the R line: whether question 7 is met, the set, the root job and the depth.
+// The I line and the R line: the facts true at the start, the root job and the depth.
 #[derive(Clone, Copy)]
 pub struct Ends {
-    pub ok: bool,
     pub start: FactSet,
     pub root: usize,
     pub depth: usize,
 }
 
-pub fn read_ends<'a>(s: &[u8], start: &'a Places, size: &'a Places, h: Shape) -> Ends
-    requires { Ready s.now h start.now size.now }
-    ensures { EndsMean (sections (lines_of s.now)) result.ok result.start result.root result.depth }
+pub fn read_ends(o: &Outline) -> Result<Ends, Unmet>
+    ensures { let p = sections_of o.now in
+        Asked (are_facts (declared p fact) (start_in (start_line p)) && among (declared p job) (name_in (root_line p))) (EndsMean p) result }
 {
-    let n = s.len();
-    let a = h.ends_at;
-    let b = cut(s, a, n, b'\n');
-    let f = field_at(s, a, b, 1);
-    let x = fact_set(s, start, size, h, f.from, f.to);
-    let d = b + 1;
-    let e = cut(s, d, n, b'\n');
-    let g = field_at(s, d, e, 1);
-    let j = look_up(
-        s,
-        start,
-        size,
-        h.facts,
-        h.steps,
-        h.jobs,
-        Kind::Job,
-        g.from,
-        g.to,
-    );
-    let k = field_at(s, d, e, 2);
-    let set = x.set;
-    Ends {
-        ok: both(x.ok, j < h.jobs),
-        start: set,
-        root: j,
-        depth: digit_of(s, k.from, k.to),
-    }
+    let start = fact_set(o, field_at(o.shape.start, 1))?;
+    let root = number_of(o, Kind::Job, field_at(o.shape.root, 1))?;
+    let depth = digit_of(field_at(o.shape.root, 2));
+    Ok(Ends { start, root, depth })
 }

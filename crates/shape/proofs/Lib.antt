@@ -2,3 +2,5 @@
 pub mod Nodes
 pub mod Slots
 pub mod Groups
+pub mod Structs
+pub mod Facts

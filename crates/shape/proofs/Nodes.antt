@@ -9,6 +9,7 @@ use lib.ListN.{length, get_or, take, drop, take-append-drop}
 use Rattle.lists.specs.List.{Every, has, Rising}
 use Rattle.lists.proofs.Member.{in_get_d}
 use Rattle.lists.proofs.Rising.{rising_range, rising_filter}
+use Rattle.bitset.specs.Set.{members}
 use Rattle.planning.specs.Table.{Table, job_of}
 use Rattle.planning.specs.Place.{methods_of}
 use Rattle.planning.specs.Record.{Record, records}
@@ -21,8 +22,9 @@ use Rattle.places.proofs.Lookup.{every_at, node_at_lem, nodes_length, slots_leng
 use Rattle.places.proofs.Records.{vars_records, own_all_append}
 use Rattle.places.proofs.Small.{Sizes, sizes_at, records_children}
 use Rattle.index.specs.Index.{source, index_of, nodes_in, slots_in as slotsWord, node_word_in, meaning_in, Few, ChildAt}
-use Rattle.index.proofs.Known.{nodes_count, first_in, step_count_in, job_count_in, method_count_in, child_count_in, child_in}
-use Rattle.index.proofs.Looked.{method_meaning, child_at_lem}
+use Rattle.index.proofs.Known.{word_members, nodes_count, first_in, steps_in_lem, jobs_in_lem}
+use Rattle.index.proofs.Known.{step_count_in, job_count_in, method_count_in, child_count_in, child_in}
+use Rattle.index.proofs.Looked.{step_meaning, job_meaning, method_meaning, child_at_lem}
 use Rattle.shape.specs.Shape.{Indexed, node, InNode}
 
 rising_at : (n x : ℕ) (xs : List ℕ) → Rising 0 n xs → x < length xs → get_or xs x 0 < n
@@ -145,12 +147,38 @@ module _ {T : Table} {ix : List ℕ} {n : ℕ} (i : InNode T ix n) where
       let k = child_known y h in
       f ∙ rw (e, k.steps, k.jobs)
 
-  pub method_is : {r a b x : ℕ} → x < length (node T n).methods → a ≡ (node T n).first → b ≡ tasks_n (node T n) → r ≡ meaning_in ix (a + b + x)
-      → (r ≡ method_at (node T n) x) × (r < 128)
-  method_is {r} {a} {b} {x} h p q e =
-      let s : r ≡ method_at (node T n) x =
-      e ∙ rw (p, q) (ap (λ (l : List ℕ). meaning_in l (method_var (node T n) x)) i.indexed.index ∙ method_meaning T n i.there x h) in
+  pub method_is : {r v x : ℕ} → x < length (node T n).methods → v ≡ method_var (node T n) x → r ≡ meaning_in ix v → (r ≡ method_at (node T n) x) × (r < 128)
+  method_is {r} {v} {x} h p e =
+      let s : r ≡ method_at (node T n) x = e ∙ rw (p, i.indexed.index) (method_meaning T n i.there x h) in
       (s, omega (arith, method_small T acc n i.there x h))
+
+  pub step_is : {r v : ℕ} (x : ℕ) → x < length (node T n).steps → v ≡ (node T n).first + x → r ≡ meaning_in ix v → r ≡ get_or (node T n).steps x 0
+  step_is {r} {v} x h p q = q ∙ rw (p, i.indexed.index) (step_meaning T n i.there x h)
+
+  pub job_is : {r v : ℕ} (x : ℕ) → x < length (node T n).jobs → v ≡ (node T n).first + length (node T n).steps + x → r ≡ meaning_in ix v
+      → r ≡ get_or (node T n).jobs x 0
+  job_is {r} {v} x h p q =
+      let e : v ≡ (node T n).first + (length (node T n).steps + x) = omega arith in
+      q ∙ rw (e, i.indexed.index) (job_meaning T n i.there x h)
+
+  -- child y is a node
+  pub child_first : {c r : ℕ} (y k : ℕ) → y < length (node T n).children → c ≡ (child_at (node T n) y).node → r ≡ (node T c).first + k
+      → r ≡ (child_at (node T n) y).first + k
+  child_first {c} {r} y k h e f = f ∙ rw (e, (child_known y h).first)
+
+  pub few_jobs : length (node T n).jobs ≤ 64
+  few_jobs = (sizes T acc n).jobs
+
+  -- the words of its sets
+  pub steps_word : {w : ℕ} → w ≡ node_word_in ix n 1 → members (w ∷ []) ≡ (node T n).steps
+  steps_word {w} e =
+      ap (λ (k : ℕ). members (k ∷ [])) (e ∙ word_of 1 ∙ steps_in_lem T n i.there)
+      ∙ word_members (length T.steps) (node T n).steps acc.limits.steps (node_steps T acc n i.there)
+
+  pub jobs_word : {w : ℕ} → w ≡ node_word_in ix n 2 → members (w ∷ []) ≡ (node T n).jobs
+  jobs_word {w} e =
+      ap (λ (k : ℕ). members (k ∷ [])) (e ∙ word_of 2 ∙ jobs_in_lem T n i.there)
+      ∙ word_members T.jobs (node T n).jobs acc.limits.jobs (node_jobs T acc n i.there)
 
   pub few_steps : length (node T n).steps ≤ 64
   few_steps = (sizes T acc n).steps

@@ -4,7 +4,7 @@ use Rattle.std.specs.Prelude.{◌≡◌, List, ℕ, ◌<◌, length}
 use Rattle.planning.specs.Table.{Table}
 use Rattle.planning.specs.Accepted.{Accepted}
 use Rattle.places.specs.Flat.{Node}
-use Rattle.places.specs.ClausePlace.{node_at, nodes_in, groups_in}
+use Rattle.places.specs.ClausePlace.{Source, node_at, nodes_in, groups_in}
 use Rattle.index.specs.Index.{source, index_of}
 
 -- an accepted table, and its index
@@ -25,9 +25,8 @@ pub record InSlot (T : Table) (ix : List ℕ) (n : ℕ) : Type 0 where
   pub indexed : Indexed T ix
   pub there : n < length (source T).slots
 
--- letter g of node or slot n of rule r
-pub record InGroup (T : Table) (ix : List ℕ) (r n g : ℕ) : Type 0 where
-  pub indexed : Indexed T ix
+-- letter g of node or slot n of rule r is there
+pub record HasLetter (S : Source) (r n g : ℕ) : Type 0 where
   pub rule : r < 4
-  pub there : n < nodes_in (source T) r
+  pub there : n < nodes_in S r
   pub group : g < groups_in r

@@ -6,45 +6,36 @@ ghost use Rattle.encoding.specs.Calls.{text_from, writing_formula, formula_after
 ghost use Rattle.answer.specs.Calls.{listed_from, showing_answer, answer_listing_after};
 
 use crate::print;
-use answer::Listed;
-use encoding::{Checked, Text};
+use encoding::Lines;
+use unmet::Unmet;
 
 // check TABLE: how many nodes, variables and clauses there are.
 pub fn check(rt: &(impl Print + Eprint), file: &[u8]) {
-    let outcome = encoding::check(file);
-    match outcome {
-        Checked::Refused(question) => print::refused(rt, question),
-        Checked::Accepted(nodes, variables, clauses) => {
-            print::number(rt, nodes);
-            print::tab(rt);
-            print::number(rt, variables);
-            print::tab(rt);
-            print::number(rt, clauses);
-        }
+    match encoding::check(file) {
+        Ok(counts) => print::written(
+            rt,
+            print!(rt;
+                "{}\t{}\t{}",
+                counts.nodes, counts.variables, counts.clauses
+            ),
+        ),
+        Err(unmet) => print::refused(rt, unmet),
     }
-    print::line_end(rt);
+    print::bytes(rt, b"\n");
 }
 
 // The outcome of a text call, and a checksum of the buffer.
-fn print_text(rt: &(impl Print + Eprint), outcome: Text, buffer: &[u8]) {
+fn print_text(rt: &(impl Print + Eprint), outcome: Result<Lines, Unmet>, buffer: &[u8]) {
     match outcome {
-        Text::Refused(question) => print::refused(rt, question),
-        Text::Written(used, next) => {
-            print::number(rt, used);
-            print::tab(rt);
-            print::number(rt, next);
-        }
+        Ok(lines) => print::written(rt, print!(rt; "{}\t{}", lines.used, lines.next)),
+        Err(unmet) => print::refused(rt, unmet),
     }
-    print::tab(rt);
-    print::word(
-        rt,
-        cases::checksum_bytes(cases::checksum_start(), buffer, buffer.len()),
-    );
-    print::line_end(rt);
+    let sum = cases::checksum_bytes(cases::checksum_start(), buffer);
+    print::written(rt, println!(rt; "\t{sum}"));
 }
 
 // A text call with the first n bytes of the buffer.
-fn write_into<'a, 'b>(file: &'a [u8], line: usize, buffer: &'b mut [u8], n: usize) -> Text
+fn write_into(file: &[u8], line: usize, buffer: &mut [u8], n: usize) -> Result<Lines, Unmet>
     ensures { (text_from result ≡ writing_formula file.now line (take (within n (length buffer.old)) buffer.old))
         × (buffer.new ≡ formula_after file.now line (take (within n (length buffer.old)) buffer.old)
         ++ drop (within n (length buffer.old)) buffer.old) }
@@ -60,17 +51,8 @@ pub fn text(rt: &(impl Print + Eprint), file: &[u8], line: usize, length: usize)
     print_text(rt, outcome, &buffer);
 }
 
-fn print_sum(rt: &(impl Print + Eprint), bytes: usize, parts: usize, sum: u64) {
-    print::number(rt, bytes);
-    print::tab(rt);
-    print::number(rt, parts);
-    print::tab(rt);
-    print::word(rt, sum);
-    print::line_end(rt);
-}
-
 // All parts of what `formula` writes: bytes, parts, and the checksum of the bytes. Of the text only its length is known afterwards.
-fn whole_into<'a, 'b>(rt: &(impl Print + Eprint), file: &'a [u8], text: &'b mut [u8])
+fn whole_into(rt: &(impl Print + Eprint), file: &[u8], text: &mut [u8])
     requires { 1024 ≤ length text.old }
     ensures { length text.new ≡ length text.old }
 {
@@ -80,11 +62,11 @@ fn whole_into<'a, 'b>(rt: &(impl Print + Eprint), file: &'a [u8], text: &'b mut 
     let mut line: usize = 0;
     loop {
         let part = programs::formula_part(file, line, text);
-        bytes = std::num::wrapping_add_usize(bytes, part.used);
-        parts = std::num::wrapping_add_usize(parts, 1);
-        sum = cases::checksum_bytes(sum, text, part.used);
+        bytes = bytes.wrapping_add(part.used);
+        parts = parts.wrapping_add(1);
+        sum = cases::checksum_bytes(sum, &text[..part.used]);
         if part.last {
-            print_sum(rt, bytes, parts, sum);
+            print::written(rt, println!(rt; "{bytes}\t{parts}\t{sum}"));
             return;
         }
         line = part.next;
@@ -101,7 +83,7 @@ pub fn whole(rt: &(impl Print + Eprint), file: &[u8], length: usize) {
 }
 
 // A listing call with the first n bytes of the buffer.
-fn list_into<'a, 'b>(file: &'a [u8], reply: &'a [u8], buffer: &'b mut [u8], n: usize) -> Listed
+fn list_into(file: &[u8], reply: &[u8], buffer: &mut [u8], n: usize) -> Result<usize, Unmet>
     ensures { (listed_from result ≡ showing_answer file.now reply.now
         (take (within n (length buffer.old)) buffer.old))
         × (buffer.new ≡ answer_listing_after file.now reply.now
@@ -113,18 +95,17 @@ fn list_into<'a, 'b>(file: &'a [u8], reply: &'a [u8], buffer: &'b mut [u8], n: u
 }
 
 // list TABLE ANSWER LENGTH: the listing of an answer's procedure, into so many bytes; behind the line the listing.
-pub fn list<'a>(rt: &(impl Print + Eprint), file: &'a [u8], reply: &'a [u8], length: usize) {
+pub fn list(rt: &(impl Print + Eprint), file: &[u8], reply: &[u8], length: usize) {
     let mut buffer = [7u8; 24600];
-    let outcome = list_into(file, reply, &mut buffer, length);
-    match outcome {
-        Listed::Refused(question) => {
-            print::refused(rt, question);
-            print::kept_from(rt, &buffer, 0);
-        }
-        Listed::Written(used) => {
-            print::number(rt, used);
+    match list_into(file, reply, &mut buffer, length) {
+        Ok(used) => {
+            print::written(rt, print!(rt; "{used}"));
             print::kept_from(rt, &buffer, used);
             print::part(rt, &buffer, used);
+        }
+        Err(unmet) => {
+            print::refused(rt, unmet);
+            print::kept_from(rt, &buffer, 0);
         }
     }
 }

@@ -11,14 +11,7 @@ use std::rt::Files;
 // More than the index has.
 const INDEX_ROOM: usize = 262144;
 
-fn run<'a>(
-    rt: &(impl Print + Eprint),
-    kind: &'a [u8],
-    file: &'a [u8],
-    reply: &'a [u8],
-    a: usize,
-    b: usize,
-) {
+fn run(rt: &(impl Print + Eprint), kind: &[u8], file: &[u8], reply: &[u8], a: usize, b: usize) {
     match kind {
         b"formula" => programs::print_formula(rt, file, a),
         b"procedure" => programs::print_procedure(rt, file, reply),
@@ -37,7 +30,7 @@ fn run_case(rt: &(impl Files + Print + Eprint), line: &[u8]) {
     let n = programs::read_named(rt, cases::field(line, 1), &mut file);
     let m = programs::read_named(rt, cases::field(line, 2), &mut reply);
     print::bytes(rt, line);
-    print::line_end(rt);
+    print::bytes(rt, b"\n");
     run(
         rt,
         cases::field(line, 0),
@@ -49,11 +42,11 @@ fn run_case(rt: &(impl Files + Print + Eprint), line: &[u8]) {
 }
 
 fn run_cases(rt: &(impl Files + Print + Eprint), index: &[u8]) {
-    let mut at: usize = 0;
-    while at < index.len() {
-        let end = lines::cut(index, at, index.len(), b'\n');
-        run_case(rt, &index[at..end]);
-        at = end + 1;
+    let mut left = index;
+    while !left.is_empty() {
+        let (line, behind) = lines::split_first(left, b'\n');
+        run_case(rt, line);
+        left = behind.unwrap_or(&[]);
     }
 }
 

@@ -1,8 +1,9 @@
-// Writes bytes, numbers and the fields of an outcome's line.
+// Writes bytes, a refusal and the fields of an outcome's line.
 use std::io;
+use unmet::Unmet;
 
 // Was it written whole? If not, standard error says so.
-fn written(rt: &impl Eprint, outcome: io::Result<()>) {
+pub fn written(rt: &impl Eprint, outcome: io::Result<()>) {
     if let Err(error) = outcome {
         let _ = eprintln!(rt; "stored: the output could not be written whole: {error}");
     }
@@ -12,27 +13,9 @@ pub fn bytes(rt: &(impl Print + Eprint), text: &[u8]) {
     written(rt, rt.write_all(text));
 }
 
-pub fn number(rt: &(impl Print + Eprint), n: usize) {
-    word(rt, n as u64);
-}
-
-pub fn word(rt: &(impl Print + Eprint), n: u64) {
-    written(rt, rt.print(n));
-}
-
-pub fn tab(rt: &(impl Print + Eprint)) {
-    bytes(rt, b"\t");
-}
-
-pub fn line_end(rt: &(impl Print + Eprint)) {
-    bytes(rt, b"\n");
-}
-
 // A refusal, with the line still open.
-pub fn refused(rt: &(impl Print + Eprint), question: usize) {
-    bytes(rt, b"refused");
-    tab(rt);
-    number(rt, question);
+pub fn refused(rt: &(impl Print + Eprint), unmet: Unmet) {
+    written(rt, print!(rt; "refused\t{}", unmet.number()));
 }
 
 // The first n bytes of a buffer.
@@ -43,13 +26,7 @@ pub fn part(rt: &(impl Print + Eprint), text: &[u8], n: usize) {
 
 // The line's last field: do the bytes from `at` on have the value 7 that they had before?
 pub fn kept_from(rt: &(impl Print + Eprint), buffer: &[u8], at: usize) {
-    let mut i = at;
-    while i < buffer.len() {
-        if buffer[i] != 7 {
-            bytes(rt, b"\tchanged\n");
-            return;
-        }
-        i += 1;
-    }
-    bytes(rt, b"\tkept\n");
+    let is_kept = buffer.iter().skip(at).all(|b| *b == 7);
+    let word = if is_kept { "kept" } else { "changed" };
+    written(rt, println!(rt; "\t{word}"));
 }

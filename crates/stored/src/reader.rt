@@ -1,126 +1,112 @@
 // The cases of the reader: a table that is read is written line by line, with numbers for names that are used. A task is `s` or `j` and its
 // number. `ws` is the table.
-use crate::print;
+use crate::print::{bytes, refused, written};
 use table::{FactSet, Task};
 
 // The facts of a set, rising, among so many facts; a hyphen where there is none.
 fn print_set(rt: &(impl Print + Eprint), set: FactSet, facts: usize) {
-    let mut before = false;
-    let mut i: usize = 0;
-    while i < facts {
+    let mut mark = "";
+    for i in 0..facts {
         if bitset::has(&set, i) {
-            if before {
-                print::bytes(rt, b",");
-            }
-            print::number(rt, i);
-            before = true;
+            written(rt, print!(rt; "{mark}{i}"));
+            mark = ",";
         }
-        i += 1;
     }
-    if !before {
-        print::bytes(rt, b"-");
+    if mark.is_empty() {
+        bytes(rt, b"-");
     }
 }
 
-fn print_facts(rt: &(impl Print + Eprint), file: &[u8], ws: &[u64]) {
-    let mut i: usize = 0;
-    while i < table::facts(ws) {
-        print::bytes(rt, b"F\t");
-        print::bytes(rt, table::fact_name(file, ws, i));
-        print::line_end(rt);
-        i += 1;
+// A line for each of so many names, behind the letter.
+fn print_names<'a, F: Fn(usize) -> &'a [u8]>(
+    rt: &(impl Print + Eprint),
+    letter: &str,
+    count: usize,
+    name: F,
+)
+    requires { F.IsAlwaysCallable name }
+{
+    for i in 0..count {
+        written(rt, print!(rt; "{letter}\t"));
+        bytes(rt, name(i));
+        bytes(rt, b"\n");
     }
 }
 
 fn print_steps(rt: &(impl Print + Eprint), file: &[u8], ws: &[u64]) {
-    let n = table::facts(ws);
-    let mut i: usize = 0;
-    while i < table::steps(ws) {
-        print::bytes(rt, b"S\t");
-        print::bytes(rt, table::step_name(file, ws, i));
-        print::tab(rt);
-        print_set(rt, table::needs(ws, i), n);
-        print::tab(rt);
-        print_set(rt, table::sets(ws, i), n);
-        print::tab(rt);
-        print_set(rt, table::clears(ws, i), n);
-        print::line_end(rt);
-        i += 1;
+    let facts = table::facts(ws);
+    for i in 0..table::steps(ws) {
+        bytes(rt, b"S\t");
+        bytes(rt, table::step_name(file, ws, i));
+        for set in [
+            table::needs(ws, i),
+            table::sets(ws, i),
+            table::clears(ws, i),
+        ] {
+            bytes(rt, b"\t");
+            print_set(rt, set, facts);
+        }
+        bytes(rt, b"\n");
     }
 }
 
-fn print_jobs(rt: &(impl Print + Eprint), file: &[u8], ws: &[u64]) {
-    let mut i: usize = 0;
-    while i < table::jobs(ws) {
-        print::bytes(rt, b"T\t");
-        print::bytes(rt, table::job_name(file, ws, i));
-        print::line_end(rt);
-        i += 1;
-    }
-}
-
-fn print_task(rt: &(impl Print + Eprint), task: Task) {
-    match task {
-        Task::Step(s) => {
-            print::bytes(rt, b"s");
-            print::number(rt, s);
-        }
-        Task::Job(j) => {
-            print::bytes(rt, b"j");
-            print::number(rt, j);
-        }
-        Task::Nothing => print::bytes(rt, b"nothing"),
-    }
+fn print_task(rt: &(impl Print + Eprint), task: Option<Task>) {
+    let outcome = match task {
+        Some(Task::Step(s)) => print!(rt; "s{s}"),
+        Some(Task::Job(j)) => print!(rt; "j{j}"),
+        None => print!(rt; "nothing"),
+    };
+    written(rt, outcome);
 }
 
 fn print_body(rt: &(impl Print + Eprint), ws: &[u64], m: usize) {
-    let n = table::body_size(ws, m);
-    if n == 0 {
-        print::bytes(rt, b"-");
+    let size = table::body_size(ws, m);
+    if size == 0 {
+        bytes(rt, b"-");
     }
-    let mut j: usize = 0;
-    while j < n {
+    for j in 0..size {
         if j > 0 {
-            print::bytes(rt, b",");
+            bytes(rt, b",");
         }
         print_task(rt, table::body_task(ws, m, j));
-        j += 1;
     }
 }
 
 fn print_methods(rt: &(impl Print + Eprint), ws: &[u64]) {
-    let mut m: usize = 0;
-    while m < table::methods(ws) {
-        print::bytes(rt, b"M\t");
-        print::number(rt, table::job_of(ws, m));
-        print::tab(rt);
+    for m in 0..table::methods(ws) {
+        written(rt, print!(rt; "M\t{}\t", table::job_of(ws, m)));
         print_body(rt, ws, m);
-        print::line_end(rt);
-        m += 1;
+        bytes(rt, b"\n");
     }
 }
 
 fn print_ends(rt: &(impl Print + Eprint), ws: &[u64]) {
-    print::bytes(rt, b"I\t");
+    bytes(rt, b"I\t");
     print_set(rt, table::start(ws), table::facts(ws));
-    print::bytes(rt, b"\nR\t");
-    print::number(rt, table::root(ws));
-    print::tab(rt);
-    print::number(rt, table::depth(ws));
-    print::line_end(rt);
+    written(
+        rt,
+        println!(rt; "\nR\t{}\t{}", table::root(ws), table::depth(ws)),
+    );
 }
 
 // read TABLE: the number of the first of questions 2 to 7 that is not met, or the table.
 pub fn read(rt: &(impl Print + Eprint), file: &[u8]) {
-    let outcome = table::read(file);
-    if outcome.question != 0 {
-        print::refused(rt, outcome.question);
-        print::line_end(rt);
-    } else {
-        print_facts(rt, file, &outcome.table);
-        print_steps(rt, file, &outcome.table);
-        print_jobs(rt, file, &outcome.table);
-        print_methods(rt, &outcome.table);
-        print_ends(rt, &outcome.table);
+    match table::read(file) {
+        Ok(ws) => {
+            print_names(
+                rt,
+                "F",
+                table::facts(&ws),
+                |i| table::fact_name(file, &ws, i),
+            );
+            print_steps(rt, file, &ws);
+            print_names(rt, "T", table::jobs(&ws), |i| table::job_name(file, &ws, i));
+            print_methods(rt, &ws);
+            print_ends(rt, &ws);
+        }
+        Err(unmet) => {
+            refused(rt, unmet);
+            bytes(rt, b"\n");
+        }
     }
 }

@@ -8,8 +8,7 @@ use mathlib.Core.Option.{Option, some}
 use Prim.Native.Nat.{ℕ, ◌+◌, ◌-◌, ◌*◌, ◌≤◌, ◌<◌, min}
 use native.Mathlib.Omega.{arith}
 use lib.Dec.{ltb}
-use lib.ListN.{length, get_or, get_elem?, take, drop, set, length-map, length-drop, length-set, replicate, get_or-eq_default, drop_of_length-le}
-use lib.Seq.{ext_get_or, take_all, take-nil, drop-length, get_or-set_same, get_or-set_other}
+use lib.ListN.{length, get_or, get_elem?, take, drop, length-map, replicate}
 use borrow.Author.Tests.{lt-ltb, le-ltb}
 use Rattle.lists.specs.List.{from, up_to}
 use Rattle.lists.proofs.Number.{length_from}
@@ -22,52 +21,8 @@ use Rattle.lines.specs.Part.{Part, bytes_at}
 use Rattle.rows.specs.Words.{fact_words, step_words, method_words, words_at, step_at, task_at, size_at, method_at}
 use Rattle.table.specs.Layout.{start_at, steps_at, methods_at, facts_in, steps_in, jobs_in, methods_in, table_in, part_at, name_parts_in, task_from, no_part}
 use Rattle.table.specs.Code.{step_set, method_word}
-use Rattle.table.specs.declared.Task.TheVariants.{Step as StepTask, Job as JobTask, Nothing}
-
--- Words, parts and counts ----------------------------------------------------------------------------------------------------
-pub past_last : (l : List ℕ) (i : ℕ) → length l ≤ i → 0 ≡ get_or l i 0
-past_last l i h = sym (get_or-eq_default l 0 h)
-
-pub part_past : (s : List ℕ) (a n : ℕ) → length s < a → take (length s - length s) (drop (length s) s) ≡ take n (drop a s)
-part_past s a n h = rw (drop-length s, drop_of_length-le s {i = a} (omega arith)) (take-nil (length s - length s) ∙ sym (take-nil n))
-
-pub part_short : (s : List ℕ) (a n : ℕ) → length s - a < n → take (length s - a) (drop a s) ≡ take n (drop a s)
-part_short s a n h = let e = length-drop a s in take_all (length s - a) (drop a s) (omega (arith, e)) ∙ sym (take_all n (drop a s) (omega (arith, e)))
-
-pub part_whole : (s : List ℕ) (a n : ℕ) → take (a + n - a) (drop a s) ≡ take n (drop a s)
-part_whole s a n = let e : a + n - a ≡ n = omega arith in ap (λ (k : ℕ). take k (drop a s)) e
-
-pub count_low : {n k : ℕ} (most : ℕ) → k ≡ n → k < most → k ≡ min n most
-count_low most e h = omega arith
-
-pub count_high : {n k : ℕ} (most : ℕ) → k ≡ n → most ≤ k → most ≡ min n most
-count_high most e h = omega arith
-
--- A loop that reads word after word: the first i of n stand -----------------------------------------------------------------------
-pub record Copying (ws : List ℕ) (p n : ℕ) (w : List ℕ) (i : ℕ) : Type 0 where
-  pub few : i ≤ n
-  pub wide : length w ≡ n
-  pub at : (j : ℕ) → j < i → get_or w j 0 ≡ get_or ws (p + j) 0
-
-pub copying_first : (ws : List ℕ) (p n : ℕ) (w : List ℕ) → length w ≡ n → Copying ws p n w 0
-copying_first ws p n w e = record { few = omega arith; wide = e; at = λ j h. absurd (omega arith) }
-
-pub copying_more : {ws : List ℕ} {p n : ℕ} {w : List ℕ} {i x : ℕ} → Copying ws p n w i → i < n → x ≡ get_or ws (p + i) 0 → Copying ws p n (set w i x) (i + 1)
-copying_more {ws} {p} {n} {w} {i} {x} u h e = record {
-  few = omega arith;
-  wide = length-set w i x ∙ u.wide;
-  at = λ j g. ⊎_elim
-      (λ q. let d : j ≡ i = omega arith in rw d (get_or-set_same w i x 0 (omega (arith, u.wide)) ∙ e))
-      (λ q. get_or-set_other w i j x 0 (λ d. omega arith) ∙ u.at j q)
-      (le_or_lt i j);
-}
-
-pub copying_done : {ws : List ℕ} {p n : ℕ} {w : List ℕ} {i : ℕ} → Copying ws p n w i → n ≤ i → w ≡ words_at ws p n
-copying_done {ws} {p} {n} {w} {i} u h =
-    let l : length (words_at ws p n) ≡ n = length-map (up_to n) (λ j. get_or ws (p + j) 0) ∙ length_from 0 n in
-    ext_get_or 0 w (words_at ws p n) (u.wide ∙ sym l)
-    (λ j g. let y : j < n = omega (arith, u.wide) in let z : 0 + j ≡ j = omega arith in
-    u.at j (omega arith) ∙ sym (get_d_map_from (λ i. get_or ws (p + i) 0) 0 n j 0 y ∙ ap (λ (i : ℕ). get_or ws (p + i) 0) z))
+use Rattle.std.specs.Prelude.{Some, None}
+use Rattle.table.specs.declared.Task.TheVariants.{Step as StepTask, Job as JobTask}
 
 -- Steps ----------------------------------------------------------------------------------------------------------------------
 empty_set : (n : ℕ) → members (replicate n 0) ≡ []
@@ -185,7 +140,7 @@ module _ (ws : List ℕ) where
       size_there : m < methods_in ws → n ≡ size_at ws at
       size_there h = q ∙ ap (λ (x : Method). length x.body) (method_there h) ∙ body_length
 
-      pub task_none : n ≤ j → task_from Nothing ≡ get_elem? (body_of (table_in ws) m) j
+      pub task_none : n ≤ j → task_from None ≡ get_elem? (body_of (table_in ws) m) j
       task_none h = ⊎_elim
           (λ g. sym (ap (λ (x : Method). get_elem? x.body j) (method_none g)))
           (λ g. sym (ap (λ (x : Method). get_elem? x.body j) (method_there g)
@@ -211,10 +166,10 @@ module _ (ws : List ℕ) where
           ∙ ap (λ (i : ℕ). some (task_at (steps_in ws) (get_or ws (at + 2 + i) 0))) z)
 
 -- a step or a job
-pub task_step : (n k : ℕ) → k < n → task_from (StepTask k) ≡ some (task_at n k)
+pub task_step : (n k : ℕ) → k < n → task_from (Some (StepTask k)) ≡ some (task_at n k)
 task_step n k h = rw (lt-ltb k n h)
 
-pub task_job : (n k : ℕ) → n ≤ k → task_from (JobTask (k - n)) ≡ some (task_at n k)
+pub task_job : (n k : ℕ) → n ≤ k → task_from (Some (JobTask (k - n))) ≡ some (task_at n k)
 task_job n k h = rw (le-ltb k n h)
 
 -- Names ----------------------------------------------------------------------------------------------------------------------

@@ -31,8 +31,7 @@ use Rattle.rows.specs.Row.{read_step, read_method}
 use Rattle.table.specs.Promises.{Promised, Promises, names_at, all_names}
 use Rattle.table.proofs.RootLine.{deep_root, all_past}
 use Rattle.table.proofs.Shown.{stands_lines, stands_leading, stands_past, stands_all}
-use Rattle.outline.proofs.Questions.{counts_small}
-use Rattle.rows.proofs.Counts.{number_in}
+use Rattle.rows.proofs.Counts.{number_lt}
 use Rattle.lists.proofs.Every.{every_append, every_imp}
 use Rattle.table.specs.Layout.{table_in, name_parts_in, reading_of}
 use Rattle.table.proofs.Formed.{names_formed, begins_F, begins_S, begins_T}
@@ -47,8 +46,8 @@ unfolding task_of
 task_in t steps jobs p q n e = go (among steps n) refl (sym (among_append steps jobs n) ∙ e)
   where
     go : (b : Bool) → among steps n ≡ b → (b || among jobs n) ≡ true → TaskIn t (cond b (step (number_of steps n)) (job (number_of jobs n)))
-    go true f e = omega (arith, number_in steps n f)
-    go false f e = omega (arith, number_in jobs n e)
+    go true f e = omega (arith, number_lt steps n f)
+    go false f e = omega (arith, number_lt jobs n e)
 
 names_length : (ls : List Piece) → length (names_of ls) ≡ length ls
 unfolding names_of
@@ -61,6 +60,16 @@ facts_rising ls ns = subst (λ (m : ℕ). Rising 0 m (facts_of (names_of ls) ns)
 every_read : {A B : Type 0} (p : A → Bool) (f : A → B) (Q : B → Type 0) → ((x : A) → p x ≡ true → Q (f x)) → (xs : List A) → all p xs ≡ true → Every Q (map f xs)
 every_read p f Q h [] e = tt
 every_read p f Q h (x ∷ xs) e = (h x (and_l (p x) (all p xs) e), every_read p f Q h xs (and_r (p x) (all p xs) e))
+
+counts_small : (f st j m : ℕ) → within_counts f st j m ≡ true → (f ≤ 64) × (st ≤ 64) × (j ≤ 64) × (m ≤ 128)
+counts_small f st j m e =
+    let b = and_r (leb f 64) (leb st 64 && (leb j 64 && leb m 128)) e in
+    let c = and_r (leb st 64) (leb j 64 && leb m 128) b in (
+      leb_sound f 64 (and_l (leb f 64) (leb st 64 && (leb j 64 && leb m 128)) e),
+      leb_sound st 64 (and_l (leb st 64) (leb j 64 && leb m 128) b),
+      leb_sound j 64 (and_l (leb j 64) (leb m 128) c),
+      leb_sound m 128 (and_r (leb j 64) (leb m 128) c),
+    )
 
 -- A table that passes --------------------------------------------------------------------------------------------------------
 module _ (ls : List Piece) (e3 : met3 ls ≡ true) (e4 : met4 (sections ls) ≡ true) where
@@ -88,14 +97,14 @@ module _ (ls : List Piece) (e3 : met3 ls ≡ true) (e4 : met4 (sections ls) ≡ 
             p.steps (and_l (all uf p.steps) (all ut p.methods && (st && ro)) e7);
         methods = every_read ut (λ (l : Piece). read_method steps jobs l.bytes) (MethodIn t)
             (λ l e. record {
-              of = omega (arith, number_in jobs (name_in l.bytes) (and_l (among jobs (name_in l.bytes)) (all (among (steps ++ jobs)) (body_in l.bytes)) e));
+              of = omega (arith, number_lt jobs (name_in l.bytes) (and_l (among jobs (name_in l.bytes)) (all (among (steps ++ jobs)) (body_in l.bytes)) e));
               body = every_read (among (steps ++ jobs)) (task_of steps jobs) (TaskIn t)
                   (task_in t steps jobs (length-map p.steps (λ (l : Piece). read_step facts l.bytes) ∙ sym ns) (sym nj))
                   (body_in l.bytes) (and_r (among jobs (name_in l.bytes)) (all (among (steps ++ jobs)) (body_in l.bytes)) e);
             })
             p.methods (and_l (all ut p.methods) (st && ro) later);
         start = rise (start_in (start_line p));
-        root = omega (arith, number_in jobs (name_in (root_line p)) (and_r st ro (and_r (all ut p.methods) (st && ro) later)));
+        root = omega (arith, number_lt jobs (name_in (root_line p)) (and_r st ro (and_r (all ut p.methods) (st && ro) later)));
         depth = (deep_root ls e3 e4).0;
       }
 
@@ -226,13 +235,6 @@ taken s t ns e =
     let r = verdict_passed (first_unmet (questions2to7 s)) (read_table p) t (name_parts_of p) ns e in
     rw (← r.1, ← r.2) (promised s r.0)
 
-passed_by : (q : ℕ) (t : Table) (ns : NameParts) → q ≡ 0 → verdict q t ns ≡ passed t ns
-passed_by q t ns e = ap (λ (k : ℕ). verdict k t ns) e
-
-refused_by : (q : ℕ) (t : Table) (ns : NameParts) → (q ≡ 0 → ⊥) → verdict q t ns ≡ refused q
-refused_by zero t ns n = absurd (n refl)
-refused_by (suc q) t ns n = refl
-
 too_long : (s : List ℕ) → 65536 < length s → reading s ≡ refused 2
 unfolding reading met2
 too_long s h = rw (leb_no (length s) 65536 h)
@@ -246,7 +248,7 @@ promises = record {
       let p = sections (lines_of s) in
       let r = verdict_refused (first_unmet (questions2to7 s)) n (read_table p) (name_parts_of p) e in
       among_seven s n r.0 r.1;
-  read = λ s r u z. taken s (table_in r.table) (name_parts_in r.table) (sym u.read ∙ passed_by r.question (table_in r.table) (name_parts_in r.table) z);
-  read_as = λ s r u z. sym u.read ∙ passed_by r.question (table_in r.table) (name_parts_in r.table) z;
-  turned_down = λ s r u n. sym u.read ∙ refused_by r.question (table_in r.table) (name_parts_in r.table) n;
+  read = λ s ws u. taken s (table_in ws) (name_parts_in ws) (sym u);
+  read_as = λ s ws u. sym u;
+  turned_down = λ s q u. sym u;
 }

@@ -1,60 +1,69 @@
 -- "Each name shown is the part of the table file where it was declared": each line's name stands where its part says.
 -- Line by line, from one LF to the next.
-use mathlib.Core.Path.{◌≡◌, refl, ap₂, ◌∙◌}
+use mathlib.Core.Path.{◌≡◌, refl, sym, ap, ap₂, ◌∙◌}
 use mathlib.Core.Bool.{Bool, true, false, cond}
-use mathlib.Core.List.{List, [], ◌∷◌, map}
+use mathlib.Core.List.{List, [], ◌∷◌, ◌++◌, map}
 use mathlib.Core.Logic.{⊎_elim}
-use Prim.Native.Nat.{ℕ, zero, suc, ◌+◌, ◌-◌, ◌≤◌, ◌<◌}
+use Prim.Native.Nat.{ℕ, zero, suc, ◌+◌, ◌≤◌, ◌<◌}
 use native.Mathlib.Omega.{arith}
-use lib.ListN.{length}
-use lib.Seq.{slice, length-slice}
-use Rattle.grammar.specs.Byte.{tab}
-use Rattle.grammar.specs.Line.{begins, name_in}
-use Rattle.lines.proofs.Cutting.{before_le}
-use Rattle.lines.proofs.Lines.{from_all, from_end, from_last, from_more}
-use Rattle.lines.proofs.Slice.{take_drop}
-use Rattle.lines.specs.Bytes.{LF}
-use Rattle.lines.specs.Cut.{Cut, before}
-use Rattle.lines.specs.Parts.{Piece, lines_of}
-use Rattle.lines.specs.Cut.{line_at, lines_from}
-use Rattle.lists.proofs.Order.{le_or_lt}
+use lib.Dec.{eqb}
+use lib.ListN.{length, get_or, take, drop, length-take, length-drop}
+use lib.Seq.{drop-cons}
+use Rattle.std.specs.List.{position_or_len}
+use Rattle.std.proofs.lemmas.List.{drop-drop, take-append-drop}
+use Rattle.std.proofs.lemmas.List.Sums.{passes_at_first}
+use Rattle.lists.proofs.Bool.{eqb_sound}
 use Rattle.lists.specs.List.{Every}
-use Rattle.outline.proofs.Names.{entry_none, entry_some}
-use Rattle.outline.specs.Index.{Entry}
-use Rattle.outline.specs.Names.{names_of}
+use Rattle.lists.proofs.Order.{le_or_lt}
+use Rattle.lines.specs.Bytes.{LF}
+use Rattle.lines.specs.Cut.{before}
 use Rattle.lines.specs.Part.{bytes_at}
+use Rattle.lines.specs.Parts.{Piece, ended, placed, lines_of}
+use Rattle.lines.proofs.Cutting.{before_le, ended_last, ended_more}
+use Rattle.lines.proofs.Parted.{before_is}
+use Rattle.grammar.specs.Line.{begins, name_in}
+use Rattle.outline.specs.Names.{names_of}
 use Rattle.outline.specs.Part.{part_of}
 use Rattle.outline.specs.Sections.{leading, past}
-
-cut_of : (c : ℕ) (s : List ℕ) (a b : ℕ) → a ≤ b → b ≤ length s → Cut c s a b (a + before c (slice a b s))
-cut_of c s a b h k = record { at = refl; low = omega arith; high = omega (arith, before_le c (slice a b s), length-slice a b s k) }
+use Rattle.outline.proofs.Spans.{entry}
 
 -- the line's name stands where its part says
 abbrev pub Stands : List ℕ → Piece → Type 0
 Stands s l = bytes_at s (part_of l) ≡ name_in l.bytes
 
-stands_entry : (s : List ℕ) (l : Piece) (p z : ℕ) → Entry s l p z → Stands s l
-stands_entry s l p z e = rw (← e.start, ← e.size) (take_drop p z s ∙ e.shown)
+stands_line : (s line behind : List ℕ) (at : ℕ) → drop at s ≡ line ++ LF ∷ behind → Stands s (record { start = at; bytes = line })
+stands_line s line behind at d =
+    let q = part_of (record { start = at; bytes = line }) in
+    (entry s line behind {p = record { start = q.start; size = q.size }} d refl).shown
 
-stands_line : (s : List ℕ) (a b : ℕ) → a ≤ b → b < length s → Stands s (line_at s a b)
-stands_line s a b h k =
-    let c = cut_of tab s a b h (omega arith) in
-    let e = a + before tab (slice a b s) in
-    ⊎_elim
-    (λ g. stands_entry s (line_at s a b) (b + 1) 0 (entry_none c k (omega (arith, c.high))))
-    (λ l. let d = cut_of tab s (e + 1) b (omega arith) (omega arith) in
-    stands_entry s (line_at s a b) (e + 1) (e + 1 + before tab (slice (e + 1) b s) - (e + 1)) (entry_some c k (λ q. omega arith) d))
-    (le_or_lt b e)
+-- the first line, its LF and what stands behind
+around : (s : List ℕ) → before LF s < length s → s ≡ take (before LF s) s ++ LF ∷ drop (suc (before LF s)) s
+around s g =
+    let h : position_or_len (λ b. eqb b LF) s < length s = omega (arith, g, before_is LF s) in
+    let f : get_or s (before LF s) 0 ≡ LF = rw (before_is LF s) (eqb_sound _ LF (passes_at_first (λ b. eqb b LF) s 0 h)) in
+    let d : drop (before LF s) s ≡ LF ∷ drop (suc (before LF s)) s = drop-cons s (before LF s) 0 g ∙ ap (λ (b : ℕ). b ∷ drop (suc (before LF s)) s) f in
+    sym (take-append-drop (before LF s) s) ∙ ap (λ (l : List ℕ). take (before LF s) s ++ l) d
 
-stands_from : (s : List ℕ) (fuel a : ℕ) → length s ≤ a + fuel → a ≤ length s → Every (Stands s) (lines_from s a)
-stands_from s zero a f h = rw (from_end s a (omega arith)) tt
-stands_from s (suc n) a f h =
-    let c = cut_of LF s a (length s) h (omega arith) in
-    let e = a + before LF (slice a (length s) s) in
-    ⊎_elim
-    (λ g. rw (from_last c (omega (arith, c.high))) tt)
-    (λ l. rw (from_more c (λ q. omega arith)) (stands_line s a e (omega arith) l, stands_from s n (e + 1) (omega arith) (omega arith)))
-    (le_or_lt (length s) e)
+-- the lines of what is left of s from the place at on
+stands_from : (s : List ℕ) (fuel at : ℕ) (rest : List ℕ) → rest ≡ drop at s → length rest ≤ fuel → Every (Stands s) (placed at (ended LF rest))
+unfolding placed
+stands_from s zero at rest d h = rw (ended_last LF rest (omega (arith, before_le LF rest))) tt
+stands_from s (suc n) at rest d h = ⊎_elim
+    (λ g. rw (ended_last LF rest (omega (arith, before_le LF rest))) tt)
+    (λ g.
+    let e = before LF rest in
+    let line = take e rest in
+    let behind = drop (suc e) rest in
+    let a : rest ≡ line ++ LF ∷ behind = around rest g in
+    let z : at + length line + 1 ≡ at + suc e = omega (arith, length-take e rest) in
+    let w : length behind ≤ n = omega (arith, length-drop (suc e) rest) in
+    let q : behind ≡ drop (at + suc e) s = ap (drop (suc e)) d ∙ drop-drop (suc e) at s in
+    let r : Every (Stands s) (placed (at + suc e) (ended LF behind)) = stands_from s n (at + suc e) behind q w in
+    rw (ended_more LF rest g) (
+      stands_line s line behind at (sym d ∙ a),
+      rw z r,
+    ))
+    (le_or_lt (length rest) (before LF rest))
 
 pub stands_leading : (s : List ℕ) (c : ℕ) (ls : List Piece) → Every (Stands s) ls → Every (Stands s) (leading c ls)
 unfolding leading
@@ -80,4 +89,5 @@ stands_all s [] h = refl
 stands_all s (l ∷ ls) h = ap₂ (λ (x : List ℕ) (xs : List (List ℕ)). x ∷ xs) h.0 (stands_all s ls h.1)
 
 pub stands_lines : (s : List ℕ) → Every (Stands s) (lines_of s)
-stands_lines s = rw (from_all s) at (stands_from s (length s) 0 (omega arith) (omega arith))
+unfolding lines_of
+stands_lines s = stands_from s (length s) 0 s refl (omega arith)

@@ -2,17 +2,18 @@
 -- Both are shut to other crates, which know them through the contracts of the calls and through Promises. Every list of words means a table:
 -- past the last word there are zeros, and no count is above its limit, whatever its word says.
 -- Assumes nothing.
-use Rattle.std.specs.Prelude.{◌≡◌, List, map, ℕ, ◌+◌, ◌*◌, min, get_or, replicate}
-use Rattle.std.proofs.Math.Option.{Option, none, some}
+use Rattle.std.specs.Prelude.{◌≡◌, List, map, ℕ, ◌+◌, ◌*◌, min, get_or, Option, Some, None, Result, Ok, Err}
+use Rattle.std.proofs.Math.Option.{Option as PlanningOption, none, some}
 use Rattle.lists.specs.List.{from, up_to}
 use Rattle.planning.specs.Table.{Task as PlanningTask, step, job, Table, most_facts, most_steps, most_jobs, most_methods}
 use Rattle.lines.specs.Part.{Part}
 use Rattle.outline.specs.Questions.{most_names}
+use Rattle.unmet.specs.declared.Unmet.{Unmet}
+use Rattle.unmet.specs.Number.{number_of}
 use Rattle.rows.specs.Words.{fact_words, step_words, method_words, set_at, step_at, method_at}
-use Rattle.table.specs.Reading.{NameParts, Reading, verdict, reading}
-use Rattle.table.specs.declared.Outcome.{Outcome}
+use Rattle.table.specs.Reading.{NameParts, Reading, refused, passed, reading}
 use Rattle.table.specs.declared.Task.{Task}
-use Rattle.table.specs.declared.Task.TheVariants.{Step as StepTask, Job as JobTask, Nothing}
+use Rattle.table.specs.declared.Task.TheVariants.{Step as StepTask, Job as JobTask}
 
 -- Where the words stand --------------------------------------------------------------------------------------------------------
 -- first how many facts, steps, jobs and methods there are, the root job and the depth, then the facts true at the start
@@ -70,25 +71,21 @@ name_parts_in ws = record {
 }
 
 -- The answers of the calls ---------------------------------------------------------------------------------------------------
--- the words beside a refusal
-abbrev pub no_table : List ℕ
-no_table = replicate table_words 0
-
--- the read: the number of the first question that is not met, 0 where all are, beside the table
-unfoldable pub reading_of : Outcome → Reading
+-- the read: the table, or the first question that is not met
+unfoldable pub reading_of : Result (List ℕ) Unmet → Reading
 unfolding table_in name_parts_in
-reading_of r = verdict r.question (table_in r.table) (name_parts_in r.table)
+reading_of (Ok ws) = passed (table_in ws) (name_parts_in ws)
+reading_of (Err q) = refused (number_of q)
 
--- the whole outcome: the reading, and nothing in the table beside a refusal
-pub record Reads (s : List ℕ) (r : Outcome) : Type 0 where
-  pub read : reading_of r ≡ reading s
-  pub nothing : (r.question ≡ 0 → ⊥) → r.table ≡ no_table
+-- the whole outcome: the reading
+abbrev pub Reads : List ℕ → Result (List ℕ) Unmet → Type 0
+Reads s r = reading_of r ≡ reading s
 
 -- a task of a body
-abbrev pub task_from : Task → Option PlanningTask
-task_from (StepTask s) = some (step s)
-task_from (JobTask j) = some (job j)
-task_from Nothing = none
+abbrev pub task_from : Option Task → PlanningOption PlanningTask
+task_from (Some (StepTask s)) = some (step s)
+task_from (Some (JobTask j)) = some (job j)
+task_from None = none
 
 -- the part of a name past the last: empty
 abbrev pub no_part : Part

@@ -1,14 +1,15 @@
 -- What is promised of every reading. The statements alone; proofs/Promised.antt proves them.
 -- Assumes nothing.
-use Rattle.std.specs.Prelude.{◌≡◌, true, List, ◌++◌, map, ℕ, ◌≤◌, ◌<◌, length}
+use Rattle.std.specs.Prelude.{◌≡◌, true, List, ◌++◌, map, ℕ, ◌≤◌, ◌<◌, length, Ok, Err}
 use Rattle.lists.specs.List.{Every, none_twice}
 use Rattle.planning.specs.Table.{Table, Sound, Limits}
 use Rattle.lines.specs.Bytes.{same_bytes}
 use Rattle.lines.specs.Part.{Part}
+use Rattle.unmet.specs.declared.Unmet.{Unmet}
+use Rattle.unmet.specs.Number.{number_of}
 use Rattle.grammar.specs.Name.{Name, is_name}
 use Rattle.table.specs.Reading.{NameParts, name_at, refused, passed, reading}
 use Rattle.table.specs.Layout.{table_in, name_parts_in, Reads}
-use Rattle.table.specs.declared.Outcome.{Outcome}
 
 -- the names that stand at some parts of the file s
 abbrev pub names_at : List ℕ → List Part → List Name
@@ -38,7 +39,7 @@ pub record Promises : Type 0 where
   pub too_long : (s : List ℕ) → 65536 < length s → reading s ≡ refused 2
   -- a refusal is by one of questions 2 to 7
   pub unmet : (s : List ℕ) (n : ℕ) → reading s ≡ refused n → (2 ≤ n) × (n ≤ 7)
-  -- so what the call hands back is promised too, and its number is the first unmet question's
-  pub read : (s : List ℕ) (r : Outcome) → Reads s r → r.question ≡ 0 → Promised s (table_in r.table) (name_parts_in r.table)
-  pub read_as : (s : List ℕ) (r : Outcome) → Reads s r → r.question ≡ 0 → reading s ≡ passed (table_in r.table) (name_parts_in r.table)
-  pub turned_down : (s : List ℕ) (r : Outcome) → Reads s r → (r.question ≡ 0 → ⊥) → reading s ≡ refused r.question
+  -- so what the call hands back is promised too, and its error is the first unmet question
+  pub read : (s ws : List ℕ) → Reads s (Ok ws) → Promised s (table_in ws) (name_parts_in ws)
+  pub read_as : (s ws : List ℕ) → Reads s (Ok ws) → reading s ≡ passed (table_in ws) (name_parts_in ws)
+  pub turned_down : (s : List ℕ) (q : Unmet) → Reads s (Err q) → reading s ≡ refused (number_of q)

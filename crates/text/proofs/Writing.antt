@@ -3,20 +3,17 @@
 use mathlib.Core.Path.{◌≡◌, refl, sym, ap, ◌∙◌, subst}
 use mathlib.Core.Bool.{Bool, true, false, cond}
 use mathlib.Core.List.{List, [], ◌∷◌, ◌++◌, map, append_assoc, append-nil}
-use mathlib.Core.Logic.{◌⊎◌, inl, inr}
 use Prim.Native.Nat.{ℕ, suc, ◌+◌, ◌-◌, ◌≤◌, ◌<◌}
 use native.Mathlib.Omega.{arith}
 use lib.Dec.{leb}
 use lib.ListN.{length, drop, length-append}
-use Rattle.lists.specs.List.{concat, concat_map}
+use Rattle.lists.specs.List.{concat}
 use Rattle.lists.specs.Written.{Wrote}
 use Rattle.lists.proofs.Bool.{leb_in, leb_no}
 use Rattle.lists.proofs.Every.{concat_append}
-use Rattle.lists.proofs.Order.{le_or_lt}
 use Rattle.lists.proofs.Written.{wrote_none, wrote_append, wrote_same, wrote_length}
 use Rattle.planning.specs.Table.{Table}
-use Rattle.planning.specs.Clause.{Clause}
-use Rattle.planning.specs.Text.{lit_text, clause_line, fitting, lines}
+use Rattle.planning.specs.Text.{clause_line, fitting, lines}
 use Rattle.places.specs.Nest.{Pos}
 use Rattle.places.specs.ClausePlace.{literals, place_at}
 use Rattle.places.proofs.Next.{text_left}
@@ -24,17 +21,17 @@ use Rattle.index.specs.Index.{source}
 use Rattle.cursor.specs.Cursor.{pos_of, next_of, In, Found}
 use Rattle.cursor.proofs.Handing.{handed_clause, handed_end}
 use Rattle.cursor.specs.declared.Cursor.{Cursor}
-use Rattle.cursor.specs.declared.Next.TheVariants.{Clause as NextClause, End}
-use Rattle.text.specs.Lines.{line_at, lines_from, if_fits, Put}
+use Rattle.std.specs.Prelude.{Some, None}
+use Rattle.text.specs.Lines.{line_at, lines_from, PutLine, Put}
 
 -- What the cursor hands out --------------------------------------------------------------------------------------------------
 abbrev lines_at : Table → List Pos → List (List ℕ)
 lines_at T l = map clause_line (map (literals (source T)) (map (place_at (source T)) l))
 
-pub next_line : (T : Table) (c p d : Cursor) → NextClause p d ≡ next_of T c → lines_from T c ≡ line_at T p ∷ lines_from T d
+pub next_line : (T : Table) (c p d : Cursor) → Some (p, d) ≡ next_of T c → lines_from T c ≡ line_at T p ∷ lines_from T d
 next_line T c p d e = ap (lines_at T) (handed_clause T c p d e)
 
-pub next_none : (T : Table) (c : Cursor) → End ≡ next_of T c → lines_from T c ≡ []
+pub next_none : (T : Table) (c : Cursor) → None ≡ next_of T c → lines_from T c ≡ []
 next_none T c e = ap (lines_at T) (handed_end T c e)
 
 -- the lines from a clause on, where the cursor was sought
@@ -47,16 +44,6 @@ fits l ls n h = rw (leb_in (length l) n h)
 
 pub fits_not : (l : List ℕ) (ls : List (List ℕ)) (n : ℕ) → n < length l → fitting n (l ∷ ls) ≡ []
 fits_not l ls n h = rw (leb_no (length l) n h)
-
-pub line_fits : (l o : List ℕ) (a : ℕ) → length l ≤ length o - a → if_fits l o a ≡ l
-line_fits l o a h = rw (leb_in (length l) (length o - a) h)
-
-pub line_fits_not : (l o : List ℕ) (a : ℕ) → length o - a < length l → if_fits l o a ≡ []
-line_fits_not l o a h = rw (leb_no (length l) (length o - a) h)
-
--- a line has an end
-line_some : (c : Clause) → 1 ≤ length (clause_line c)
-line_some c = let e : List ℕ = 48 ∷ 10 ∷ [] in omega (arith, length-append (concat_map (λ l. lit_text l ++ (32 ∷ [])) c) e)
 
 fitting_few : (n : ℕ) (ls : List (List ℕ)) → length (fitting n ls) ≤ length ls
 fitting_few n [] = omega arith
@@ -94,47 +81,32 @@ module _ {T : Table} {c₀ : Cursor} {a j : ℕ} {o₀ : List ℕ} {c : Cursor} 
       let f : fitting (length o₀ - a) (lines_from T c₀) ≡ w.done = w.fit ∙ ap (λ (l : List (List ℕ)). w.done ++ l) q ∙ append-nil w.done in
       record { text = rw f w.text; next = rw f w.count }
 
-  pub writing_end : End ≡ next_of T c → Put (lines_from T c₀) a j o₀ o (record { used = e; next = line })
+  pub writing_end : None ≡ next_of T c → Put (lines_from T c₀) a j o₀ o (record { used = e; next = line })
   writing_end q = ended (ap (fitting (length o₀ - e)) (next_none T c q))
 
   -- how many lines there can be
   pub few : line + length (fitting (length o₀ - e) (lines_from T c)) ≤ j + length (lines_from T c₀)
   few = omega (arith, w.count, fitting_few (length o₀ - a) (lines_from T c₀), ap length w.fit, length-append w.done (fitting (length o₀ - e) (lines_from T c)))
 
-  module _ {p d : Cursor} (q : NextClause p d ≡ next_of T c) {o' : List ℕ} {r : ℕ} (v : Wrote o e (if_fits (line_at T p) o e) o' r) where
-    cases : (length (line_at T p) ≤ length o - e) ⊎ (length o - e < length (line_at T p))
-    cases = le_or_lt (length (line_at T p)) (length o - e)
+  pub fewer : {p d : Cursor} → Some (p, d) ≡ next_of T c → length (lines_from T d) < length (lines_from T c)
+  fewer {p} {d} q = omega (arith, ap length (next_line T c p d q))
 
-    pub writing_full : r ≡ e → Put (lines_from T c₀) a j o₀ o' (record { used = e; next = line })
-    writing_full z = go cases
-      where
-        go : (length (line_at T p) ≤ length o - e) ⊎ (length o - e < length (line_at T p)) → Put (lines_from T c₀) a j o₀ o' (record { used = e; next = line })
-        go (inl h) = absurd (omega (arith, v.end, z, ap length (line_fits (line_at T p) o e h), line_some (literals (source T) (place_at (source T) (pos_of p)))))
-        go (inr h) =
-            let b : o' ≡ o = v.text ∙ rw (line_fits_not (line_at T p) o e h) (sym (wrote_none o e).text) in
-            subst (λ (l : List ℕ). Put (lines_from T c₀) a j o₀ l (record { used = e; next = line })) (sym b)
-            (ended (ap (fitting (length o₀ - e)) (next_line T c p d q) ∙ fits_not (line_at T p) (lines_from T d) (length o₀ - e) (omega (arith, w.long))))
+  module _ {p d : Cursor} (q : Some (p, d) ≡ next_of T c) {o' : List ℕ} where
+    pub writing_full : PutLine (line_at T p) e o o' None → Put (lines_from T c₀) a j o₀ o' (record { used = e; next = line })
+    writing_full v =
+        subst (λ (l : List ℕ). Put (lines_from T c₀) a j o₀ l (record { used = e; next = line })) (sym v.1)
+        (ended (ap (fitting (length o₀ - e)) (next_line T c p d q) ∙ fits_not (line_at T p) (lines_from T d) (length o₀ - e) (omega (arith, v.0, w.long))))
 
-    module _ (u : r ≡ e → ⊥) where
-      it_fits : length (line_at T p) ≤ length o - e
-      it_fits = go cases
-        where
-          go : (length (line_at T p) ≤ length o - e) ⊎ (length o - e < length (line_at T p)) → length (line_at T p) ≤ length o - e
-          go (inl h) = h
-          go (inr h) = absurd (u (omega (arith, v.end, ap length (line_fits_not (line_at T p) o e h))))
-
+    module _ {r : ℕ} (v : PutLine (line_at T p) e o o' (Some r)) where
       rest : fitting (length o₀ - e) (lines_from T c) ≡ line_at T p ∷ fitting (length o₀ - e - length (line_at T p)) (lines_from T d)
-      rest = ap (fitting (length o₀ - e)) (next_line T c p d q) ∙ fits (line_at T p) (lines_from T d) (length o₀ - e) (omega (arith, it_fits, w.long))
+      rest = ap (fitting (length o₀ - e)) (next_line T c p d q) ∙ fits (line_at T p) (lines_from T d) (length o₀ - e) (omega (arith, v.0, w.long))
 
       pub line_room : line + 1 ≤ j + length (lines_from T c₀)
       line_room = omega (arith, few, ap length rest)
 
-      pub fewer : length (lines_from T d) < length (lines_from T c)
-      fewer = omega (arith, ap length (next_line T c p d q))
-
       pub writing_more : In T d → Writing T c₀ a j o₀ d r (line + 1) o'
       writing_more i =
-          let v' : Wrote o e (line_at T p) o' r = wrote_same (line_fits (line_at T p) o e it_fits) v in
+          let v' : Wrote o e (line_at T p) o' r = v.1 in
           let n : length o₀ - e - length (line_at T p) ≡ length o₀ - r = omega (arith, v'.end) in
           record {
             done = w.done ++ (line_at T p ∷ []);
@@ -142,8 +114,8 @@ module _ {T : Table} {c₀ : Cursor} {a j : ℕ} {o₀ : List ℕ} {c : Cursor} 
             fit = w.fit ∙ ap (λ (l : List (List ℕ)). w.done ++ l) (rest ∙ ap (λ (k : ℕ). line_at T p ∷ fitting k (lines_from T d)) n) ∙ sym (append_assoc w.done (line_at T p ∷ []) (fitting (length o₀ - r) (lines_from T d)));
             count = omega (arith, w.count, length-append w.done (line_at T p ∷ []));
             inside = i;
-            within = (omega (arith, v'.end, w.within.0), omega (arith, v'.end, it_fits, w.long, w.within.1));
-            long = wrote_length v' (omega (arith, it_fits, w.long, w.within.1)) ∙ w.long;
+            within = (omega (arith, v'.end, w.within.0), omega (arith, v'.end, v.0, w.long, w.within.1));
+            long = wrote_length v' (omega (arith, v.0, w.long, w.within.1)) ∙ w.long;
           }
         where
           joined : concat w.done ++ line_at T p ≡ concat (w.done ++ (line_at T p ∷ []))

@@ -1,6 +1,6 @@
 -- Inside the encoding, nothing to believe: lines written one behind the other. What is written is planning's text.
 -- Assumes nothing.
-use Rattle.std.specs.Prelude.{◌≡◌, cond, List, [], ℕ, ◌+◌, ◌-◌, leb, length}
+use Rattle.std.specs.Prelude.{◌≡◌, List, ℕ, ◌+◌, ◌-◌, ◌≤◌, ◌<◌, length, Option, Some, None}
 use Rattle.lists.specs.List.{concat}
 use Rattle.lists.specs.Written.{Wrote}
 use Rattle.planning.specs.Table.{Table}
@@ -20,9 +20,10 @@ line_at T c = clause_line (literals (source T) (place_at (source T) (pos_of c)))
 abbrev pub lines_from : Table → Cursor → List (List ℕ)
 lines_from T c = lines_left (source T) (pos_of c)
 
--- a line written behind the first a bytes of o, where it fits
-abbrev pub if_fits : List ℕ → (o : List ℕ) (a : ℕ) → List ℕ
-if_fits l o a = cond (leb (length l) (length o - a)) l []
+-- line l was written behind the first a bytes of o, where it fits, and its end is r; where it does not, nothing was written
+abbrev pub PutLine : List ℕ → (a : ℕ) (o o' : List ℕ) → Option ℕ → Type 0
+PutLine l a o o' None = (length o - a < length l) × (o' ≡ o)
+PutLine l a o o' (Some r) = (length l ≤ length o - a) × Wrote o a l o' r
 
 -- as many of these lines as fit were written behind the first a bytes of o, the first of them being line j
 pub record Put (ls : List (List ℕ)) (a j : ℕ) (o o' : List ℕ) (r : Lines) : Type 0 where

@@ -1,5 +1,6 @@
--- The methods of a node's jobs, and what they make of its children.
+-- the methods of a node's jobs, what they make of its children, and the chains that count and measure them
 pub mod Methods
+pub mod Chains
 -- visits one after the other
 pub mod Visits
 pub mod Whole

@@ -5,10 +5,10 @@ use mathlib.Core.Bool.{Bool, true, false, cond, ◌&&◌, ◌||◌}
 use mathlib.Core.List.{List, [], ◌∷◌, ◌++◌}
 use mathlib.Core.Logic.{◌⊎◌, inl, inr}
 use mathlib.Core.Option.{Option, none, some}
-use Prim.Native.Nat.{ℕ, zero, suc, ◌+◌, ◌/◌, ◌≤◌, ◌<◌, max}
+use Prim.Native.Nat.{ℕ, zero, suc, ◌+◌, ◌/◌, ◌≤◌, ◌<◌}
 use native.Mathlib.Omega.{arith}
 use lib.Dec.{eqb}
-use lib.ListN.{length, get_or, get_elem?, length-append}
+use lib.ListN.{length, get_or, get_elem?}
 use borrow.Author.Tests.{lt-ltb}
 use Rattle.lists.specs.List.{cons_if, filter, any, from, up_to, has, Every, Rising}
 use Rattle.lists.proofs.Bool.{bool_cases, clash, false_of, or_off, and_on, and_off, eqb_sound, eqb_other, eqb_same}
@@ -21,7 +21,7 @@ use Rattle.bitset.specs.Set.{contains, inserted}
 use Rattle.bitset.proofs.Promises.{promises}
 use Rattle.planning.proofs.Task.{same_sound}
 use Rattle.planning.specs.Table.{Task, step, job, Table, job_of, body_of, TaskIn, MethodIn, no_method}
-use Rattle.planning.specs.Place.{Label as PlanningLabel, methods_of, longest, is, named, child_label}
+use Rattle.planning.specs.Place.{Label as PlanningLabel, methods_of, is, named, child_label}
 use Rattle.tree.specs.Visit.{members_in, label_in, Known, with_task}
 use Rattle.tree.specs.declared.Label.{Label}
 
@@ -38,33 +38,6 @@ methods_next T js m =
 -- a set in a word
 pub word_has : (w i : ℕ) → contains (w ∷ []) i ≡ has (members_in w) i
 word_has w i = promises.member (w ∷ []) i
-
--- Counts and lengths ---------------------------------------------------------------------------------------------------------
-module _ (T : Table) (w m : ℕ) where
-  abbrev here : Bool
-  here = contains (w ∷ []) (job_of T m)
-
-  pub count_next : {n : ℕ} → n ≡ length (methods_to T (members_in w) m) → cond here (n + 1) n ≡ length (methods_to T (members_in w) (m + 1))
-  count_next {n} e =
-      go (has (members_in w) (job_of T m)) (word_has w (job_of T m))
-      ∙ sym (ap length (methods_next T (members_in w) m) ∙ length-append (methods_to T (members_in w) m) (cons_if (has (members_in w) (job_of T m)) m []))
-    where
-      go : (b : Bool) → here ≡ b → cond here (n + 1) n ≡ length (methods_to T (members_in w) m) + length (cons_if b m [])
-      go true f = rw f (omega (arith, e))
-      go false f = rw f (omega (arith, e))
-
-  longest_append : (xs ys : List ℕ) → longest T (xs ++ ys) ≡ max (longest T xs) (longest T ys)
-  longest_append [] ys = omega arith
-  longest_append (x ∷ xs) ys = omega (arith, longest_append xs ys)
-
-  pub longest_next : {n : ℕ} → n ≡ longest T (methods_to T (members_in w) m) → cond here (max n (length (body_of T m))) n ≡ longest T (methods_to T (members_in w) (m + 1))
-  longest_next {n} e =
-      go (has (members_in w) (job_of T m)) (word_has w (job_of T m))
-      ∙ sym (ap (longest T) (methods_next T (members_in w) m) ∙ longest_append (methods_to T (members_in w) m) (cons_if (has (members_in w) (job_of T m)) m []))
-    where
-      go : (b : Bool) → here ≡ b → cond here (max n (length (body_of T m))) n ≡ max (longest T (methods_to T (members_in w) m)) (longest T (cons_if b m []))
-      go true f = rw f (omega (arith, e))
-      go false f = rw f (omega (arith, e))
 
 pub count_most : (T : Table) (js : List ℕ) (m : ℕ) → length (methods_to T js m) ≤ m
 count_most T js m = omega (arith, Rattle.lists.proofs.Member.length_filter (λ k. has js (job_of T k)) (up_to m), length_from 0 m)

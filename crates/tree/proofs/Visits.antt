@@ -6,10 +6,12 @@ use mathlib.Core.List.{List, [], ◌∷◌, ◌++◌, map, append-nil}
 use mathlib.Core.Logic.{◌⊎◌, inl, inr}
 use Prim.Native.Nat.{ℕ, zero, suc, ◌+◌, ◌-◌, ◌*◌, ◌≤◌, ◌<◌}
 use native.Mathlib.Numerals.{add-one, sub-one}
+use native.Mathlib.Nat.{add-zero, add_assoc}
 use native.Mathlib.Omega.{arith}
 use lib.Dec.{ltb}
 use borrow.Author.Tests.{lt-ltb, le-ltb}
 use lib.ListN.{length, length-map}
+use Rattle.std.specs.Prelude.{Option, None, Some}
 use Rattle.lists.specs.List.{from}
 use Rattle.lists.specs.Written.{Wrote}
 use Rattle.lists.proofs.Bool.{clash, and_off}
@@ -23,7 +25,7 @@ use Rattle.planning.specs.Record.{Record, records_at, records_below}
 use Rattle.planning.specs.Variable.{own_vars, parts_vars}
 use Rattle.planning.proofs.Task.{length_tasks}
 use Rattle.tree.specs.Words.{record_words, tree_words}
-use Rattle.tree.specs.Visit.{members_in, label_in, some_in, Small, Visited, VisitedPart, VisitedParts, children_from, Put}
+use Rattle.tree.specs.Visit.{members_in, label_in, some_in, Small, counted_on, Visited, VisitedTo, VisitedPart, VisitedParts, children_from, Put}
 use Rattle.tree.specs.declared.Label.{Label}
 use Rattle.tree.specs.declared.Count.{Count}
 
@@ -32,74 +34,74 @@ wrote_to : {o : List ℕ} {at : ℕ} {xs o' : List ℕ} {r r' : ℕ} → r ≡ r
 wrote_to e w = rw (← e) w
 
 -- Any part -----------------------------------------------------------------------------------------------------------------------
-module _ {n v s : ℕ} {rs : List Record} {c : Count} {o : List ℕ} (small : Small c) where
+module _ {n v s : ℕ} {rs : List Record} {c : Count} {o : List ℕ} where
   -- there is no room for its first node
-  pub visited_full : c.nodes ≡ 1024 → 1 ≤ n → Visited n v s rs c o o (record { nodes = 1025; variables = c.variables; slots = c.slots })
-  visited_full e h = record {
-    nodes = omega (arith, e);
-    variables = λ k. absurd (omega (arith, e));
-    slots = λ k. absurd (omega (arith, e));
-    small = record { nodes = omega arith; variables = omega (arith, e, small.variables); slots = omega (arith, e, small.slots) };
-    kept = λ k. absurd (omega (arith, e));
-  }
-
-  -- there are too many already
-  pub visited_over : c.nodes ≡ 1025 → Visited n v s rs c o o c
-  visited_over e = record {
-    nodes = omega (arith, e);
-    variables = λ k. absurd (omega (arith, e));
-    slots = λ k. absurd (omega (arith, e));
-    small = small;
-    kept = λ k. absurd (omega (arith, e));
-  }
+  pub visited_full : c.nodes ≡ 1024 → 1 ≤ n → Visited n v s rs c o o None
+  visited_full e h = record { outcome = omega (arith, e) }
 
 -- no part
-pub visited_none : {c : Count} {o : List ℕ} → Small c → Visited 0 0 0 [] c o o c
+pub visited_none : {c : Count} {o : List ℕ} → Small c → Visited 0 0 0 [] c o o (Some c)
 visited_none {c} {o} small = record {
-  nodes = omega (arith, small.nodes);
-  variables = λ k. omega arith;
-  slots = λ k. omega arith;
-  small = small;
-  kept = λ k h. wrote_to (omega arith) (wrote_none o (5 * c.nodes));
+  outcome = record {
+    few = omega (arith, small.nodes);
+    count = rw (add-zero c.nodes, add-zero c.variables, add-zero c.slots) refl;
+    small = small;
+    kept = λ room. wrote_none o (5 * c.nodes);
+  };
 }
 
 -- one node
 pub visited_one : {c d : Count} {o o₁ : List ℕ} {dep par kids v s : ℕ} {l : Label} → c.nodes < 1024 → Put c.nodes dep par kids l.steps l.jobs o o₁
-    → d.nodes ≡ c.nodes + 1 → d.variables ≡ c.variables + v → d.slots ≡ c.slots + s → Small d
-    → Visited 1 v s (record { depth = dep; parent = par; children = kids; label = label_in l } ∷ []) c o o₁ d
-visited_one {c} {d} {o} {o₁} {dep} {par} {kids} {v} {s} {l} h p e f g small = record {
-  nodes = omega (arith, e);
-  variables = λ k. f;
-  slots = λ k. g;
-  small = small;
-  kept = λ k room.
-      wrote_to (omega arith)
-      (wrote_same (sym (append-nil (record_words (record { depth = dep; parent = par; children = kids; label = label_in l })))) (p.kept (omega arith)));
-}
+    → d ≡ counted_on c 1 v s → Small d
+    → VisitedTo 1 v s (record { depth = dep; parent = par; children = kids; label = label_in l } ∷ []) c o o₁ d
+visited_one {c} {d} {o} {o₁} {dep} {par} {kids} {v} {s} {l} h p e small =
+    let n : d.nodes ≡ c.nodes + 1 = ap (λ (k : Count). k.nodes) e in
+    record {
+      few = omega arith;
+      count = e;
+      small = small;
+      kept = λ room.
+          wrote_to (omega (arith, n))
+          (wrote_same (sym (append-nil (record_words (record { depth = dep; parent = par; children = kids; label = label_in l })))) (p.kept (omega (arith, n))));
+    }
 
 -- one part behind the other
-pub visited_more : {n₁ v₁ s₁ n₂ v₂ s₂ : ℕ} {rs : List Record} {c d r : Count} {o o₁ o₂ : List ℕ} (f : ℕ → List Record)
-    → Visited n₁ v₁ s₁ rs c o o₁ d → Visited n₂ v₂ s₂ (f d.nodes) d o₁ o₂ r
+pub visited_more : {n₁ v₁ s₁ n₂ v₂ s₂ : ℕ} {rs : List Record} {c d : Count} {o o₁ o₂ : List ℕ} (f : ℕ → List Record) (r : Option Count)
+    → VisitedTo n₁ v₁ s₁ rs c o o₁ d → Visited n₂ v₂ s₂ (f d.nodes) d o₁ o₂ r
     → Visited (n₁ + n₂) (v₁ + v₂) (s₁ + s₂) (rs ++ f (c.nodes + n₁)) c o o₂ r
-visited_more {n₁} {v₁} {s₁} {n₂} {v₂} {s₂} {rs} {c} {d} {r} {o} {o₁} {o₂} f a b = record {
-  nodes = omega (arith, a.nodes, b.nodes);
-  variables = λ k. omega (arith, a.variables (omega arith), b.variables (omega (arith, a.nodes)));
-  slots = λ k. omega (arith, a.slots (omega arith), b.slots (omega (arith, a.nodes)));
-  small = b.small;
-  kept = both;
+visited_more {n₁} {v₁} {s₁} {n₂} {v₂} {s₂} {rs} {c} {d} {o} {o₁} {o₂} f None a b =
+    record { outcome = omega (arith, ap (λ (k : Count). k.nodes) a.count, b.outcome) }
+visited_more {n₁} {v₁} {s₁} {n₂} {v₂} {s₂} {rs} {c} {d} {o} {o₁} {o₂} f (Some r) a u = record {
+  outcome = record {
+    few = omega (arith, e, b.few);
+    count = b.count ∙ rw a.count (rw (add_assoc c.nodes n₁ n₂, add_assoc c.variables v₁ v₂, add_assoc c.slots s₁ s₂) refl);
+    small = b.small;
+    kept = both;
+  };
 }
   where
-    both : c.nodes + (n₁ + n₂) ≤ 1024 → 5 * (c.nodes + (n₁ + n₂)) ≤ length o
-        → Wrote o (5 * c.nodes) (tree_words (rs ++ f (c.nodes + n₁))) o₂ (5 * (c.nodes + (n₁ + n₂)))
-    both k room =
-        let e : d.nodes ≡ c.nodes + n₁ = omega (arith, a.nodes) in
-        let wa = a.kept (omega arith) (omega arith) in
-        let l : length o₁ ≡ length o = wrote_length wa (omega (arith, wa.end)) in
-        let wb : Wrote o₁ (5 * (c.nodes + n₁)) (tree_words (f (c.nodes + n₁))) o₂ (5 * (c.nodes + n₁ + n₂)) = rw e at (b.kept (omega arith) (omega (arith, l))) in
-        wrote_to (omega arith)
-        (wrote_same (sym (concat_map_append record_words rs (f (c.nodes + n₁)))) (wrote_append (omega arith) wa wb))
+    b : VisitedTo n₂ v₂ s₂ (f d.nodes) d o₁ o₂ r
+    b = u.outcome
 
-visited_same : {n n' v v' s s' : ℕ} {rs rs' : List Record} {c r : Count} {o o' : List ℕ} → n ≡ n' → v ≡ v' → s ≡ s' → rs ≡ rs'
+    e : d.nodes ≡ c.nodes + n₁
+    e = ap (λ (k : Count). k.nodes) a.count
+
+    g : r.nodes ≡ d.nodes + n₂
+    g = ap (λ (k : Count). k.nodes) b.count
+
+    both : 5 * r.nodes ≤ length o → Wrote o (5 * c.nodes) (tree_words (rs ++ f (c.nodes + n₁))) o₂ (5 * r.nodes)
+    both room =
+        let wa = a.kept (omega (arith, g)) in
+        let l : length o₁ ≡ length o = wrote_length wa (omega (arith, wa.end, g)) in
+        let wb : Wrote o₁ (5 * d.nodes) (tree_words (f (c.nodes + n₁))) o₂ (5 * r.nodes) = rw (← e) (b.kept (omega (arith, l))) in
+        wrote_same (sym (concat_map_append record_words rs (f (c.nodes + n₁)))) (wrote_append (omega (arith, e, g)) wa wb)
+
+-- the first part has too many nodes already
+pub visited_late : {n₁ v₁ s₁ : ℕ} (n₂ v₂ s₂ : ℕ) {rs : List Record} (qs : List Record) {c : Count} {o o₁ : List ℕ} → Visited n₁ v₁ s₁ rs c o o₁ None
+    → Visited (n₁ + n₂) (v₁ + v₂) (s₁ + s₂) qs c o o₁ None
+visited_late n₂ v₂ s₂ qs h = record { outcome = omega (arith, h.outcome) }
+
+visited_same : {n n' v v' s s' : ℕ} {rs rs' : List Record} {c : Count} {r : Option Count} {o o' : List ℕ} → n ≡ n' → v ≡ v' → s ≡ s' → rs ≡ rs'
     → Visited n v s rs c o o' r → Visited n' v' s' rs' c o o' r
 visited_same e f g h w = rw (← e, ← f, ← g, ← h) w
 
@@ -139,29 +141,26 @@ own_inner_lem : (T : Table) (L : PlanningLabel) (ps : Places) → own_vars T (in
 own_inner_lem T L ps = omega (arith, length_tasks L.steps L.jobs)
 
 module _ (T : Table) (left par : ℕ) (l : Label) {c : Count} {o : List ℕ} where
-  pub part_full : Small c → c.nodes ≡ 1024 → VisitedPart T left par (label_in l) c o o (record { nodes = 1025; variables = c.variables; slots = c.slots })
-  part_full small e = visited_full small e (nodes_some (place T left (label_in l)))
+  pub part_full : c.nodes ≡ 1024 → VisitedPart T left par (label_in l) c o o None
+  part_full e = visited_full e (nodes_some (place T left (label_in l)))
 
   pub part_slot : {o₁ : List ℕ} {d : Count} → (ltb 0 left && some_in (members_in l.jobs)) ≡ false → c.nodes < 1024
-      → Put c.nodes (T.depth - left) par 0 l.steps l.jobs o o₁
-      → (d.nodes ≡ c.nodes + 1) × (d.variables ≡ c.variables + length (members_in l.steps)) × (d.slots ≡ c.slots + 1) × Small d
-      → VisitedPart T left par (label_in l) c o o₁ d
-  part_slot {o₁} {d} e h p q =
-      rw (place_slot T left (label_in l) e)
-      (visited_one {l = l} h p q.0 (q.1 ∙ ap (λ (k : ℕ). c.variables + k) own) q.2 q.3)
+      → Put c.nodes (T.depth - left) par 0 l.steps l.jobs o o₁ → (d ≡ counted_on c 1 (length (members_in l.steps)) 1) × Small d
+      → VisitedPart T left par (label_in l) c o o₁ (Some d)
+  part_slot {o₁} {d} e h p q = rw (place_slot T left (label_in l) e) (record { outcome = visited_one {l = l} h p (rw (← own) q.0) q.1 })
     where
       own : length (members_in l.steps) ≡ own_vars T (slot (label_in l))
       own = omega (arith, length-map (members_in l.steps) step)
 
-  pub part_inner : {o₁ o₂ : List ℕ} {d r : Count} {kids : ℕ} → (ltb 0 left && some_in (members_in l.jobs)) ≡ true → c.nodes < 1024 → left ≤ T.depth
+  pub part_inner : {o₁ o₂ : List ℕ} {d : Count} {kids : ℕ} (r : Option Count) → (ltb 0 left && some_in (members_in l.jobs)) ≡ true → c.nodes < 1024 → left ≤ T.depth
       → kids ≡ child_count T (label_in l) → Put c.nodes (T.depth - left) par kids l.steps l.jobs o o₁
-      → (d.nodes ≡ c.nodes + 1) × (d.variables ≡ c.variables + (length (members_in l.steps) + length (members_in l.jobs) + length (methods_of T (members_in l.jobs)))) × (d.slots ≡ c.slots) × Small d
+      → (d ≡ counted_on c 1 (length (members_in l.steps) + length (members_in l.jobs) + length (methods_of T (members_in l.jobs))) 0) × Small d
       → VisitedParts T (left - 1) c.nodes (label_in l) 0 kids d o₁ o₂ r
       → VisitedPart T left par (label_in l) c o o₂ r
-  part_inner {o₁} {o₂} {d} {r} {kids} e h low k p q v =
+  part_inner {o₁} {o₂} {d} {kids} r e h low k p q v =
       rw (place_inner T left (label_in l) e)
       (visited_same (omega arith) (ap (λ (n : ℕ). n + parts_vars T ps) (sym (own_inner_lem T (label_in l) ps))) (omega arith) same_records
-      (visited_more below head (rw k at v)))
+      (visited_more below r head (rw k at v)))
     where
       ps : Places
       ps = children_from T (left - 1) (label_in l) 0 (child_count T (label_in l))
@@ -169,9 +168,9 @@ module _ (T : Table) (left par : ℕ) (l : Label) {c : Count} {o : List ℕ} whe
       below : ℕ → List Record
       below n = records_below ps (T.depth - (left - 1)) c.nodes n
 
-      head : Visited 1 (length (members_in l.steps) + length (members_in l.jobs) + length (methods_of T (members_in l.jobs))) 0
+      head : VisitedTo 1 (length (members_in l.steps) + length (members_in l.jobs) + length (methods_of T (members_in l.jobs))) 0
           (record { depth = T.depth - left; parent = par; children = kids; label = label_in l } ∷ []) c o o₁ d
-      head = visited_one {l = l} h p q.0 q.1 (omega (arith, q.2)) q.3
+      head = visited_one {l = l} h p q.0 q.1
 
       above : 1 ≤ left
       above = go (le_or_lt 1 left)
@@ -194,11 +193,14 @@ children_more T left L i (suc m) u = rw (add-one i, sub-one (suc m))
 
 -- The parts of children --------------------------------------------------------------------------------------------------------
 module _ (T : Table) (left par i : ℕ) (L : PlanningLabel) {c : Count} {o : List ℕ} where
-  pub parts_none : (m : ℕ) → Small c → m ≡ 0 → VisitedParts T left par L i m c o o c
+  pub parts_none : (m : ℕ) → Small c → m ≡ 0 → VisitedParts T left par L i m c o o (Some c)
   parts_none m small e = rw e (visited_none small)
 
-  pub parts_more : (m : ℕ) {o₁ o₂ : List ℕ} {d r : Count} → (m ≡ 0 → ⊥) → VisitedPart T left par (child_label T L i) c o o₁ d
+  pub parts_more : (m : ℕ) {o₁ o₂ : List ℕ} {d : Count} (r : Option Count) → (m ≡ 0 → ⊥) → VisitedPart T left par (child_label T L i) c o o₁ (Some d)
       → VisitedParts T left par L (i + 1) (m - 1) d o₁ o₂ r → VisitedParts T left par L i m c o o₂ r
-  parts_more m {o₁} {o₂} {d} {r} e a b =
+  parts_more m {o₁} {o₂} {d} r e a b =
       rw (children_more T left L i m e)
-      (visited_more (λ n. records_below (children_from T left L (i + 1) (m - 1)) (T.depth - left) par n) a b)
+      (visited_more (λ n. records_below (children_from T left L (i + 1) (m - 1)) (T.depth - left) par n) r a.outcome b)
+
+  pub parts_late : (m : ℕ) {o₁ : List ℕ} → (m ≡ 0 → ⊥) → VisitedPart T left par (child_label T L i) c o o₁ None → VisitedParts T left par L i m c o o₁ None
+  parts_late m {o₁} e a = rw (children_more T left L i m e) (visited_late _ _ _ _ a)

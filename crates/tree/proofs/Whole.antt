@@ -3,20 +3,18 @@
 use mathlib.Core.Path.{◌≡◌, refl, sym, ap, ◌∙◌}
 use mathlib.Core.Bool.{true, false}
 use mathlib.Core.List.{List, [], ◌∷◌}
-use Prim.Native.Nat.{ℕ, ◌+◌, ◌-◌, ◌*◌, ◌^◌, ◌≤◌, ◌<◌}
+use Prim.Native.Nat.{ℕ, ◌+◌, ◌-◌, ◌*◌, ◌^◌, ◌<◌}
 use native.Mathlib.Omega.{arith}
 use lib.ListN.{length, get_or, length-append}
-use Rattle.lists.specs.Written.{Wrote}
+use Rattle.std.specs.Prelude.{Option, None, Some}
 use Rattle.lists.proofs.Rising.{rising_filter}
 use Rattle.lists.proofs.Place.{one_word}
 use Rattle.bitset.specs.Set.{members, inserted, set_of}
 use Rattle.bitset.proofs.Promises.{promises}
 use Rattle.planning.specs.Table.{Table}
-use Rattle.planning.specs.Place.{Label as PlanningLabel, Place, slot, inner, Places, stop, also, child_label, root_label, root_place, nodes}
-use Rattle.planning.specs.Record.{records}
+use Rattle.planning.specs.Place.{Label as PlanningLabel, Place, slot, inner, Places, stop, also, child_label, root_label, root_place}
 use Rattle.planning.specs.Variable.{own_vars, part_vars, slot_vars, slots_vars}
-use Rattle.tree.specs.Words.{tree_words}
-use Rattle.tree.specs.Visit.{members_in, label_in, some_in, Inside, Known, slots_of, slots_of_each, Small, VisitedPart, VisitedTree, no_count, Counted}
+use Rattle.tree.specs.Visit.{members_in, label_in, some_in, Inside, Known, slots_of, slots_of_each, Small, VisitedPart, no_count, Built}
 use Rattle.tree.specs.declared.Label.{Label}
 use Rattle.tree.specs.declared.Count.{Count}
 
@@ -69,22 +67,6 @@ mutual
   slots_length_each T (also p ps) b =
       length-append (slot_vars T p b) (slots_vars T ps (b + part_vars T p)) ∙ omega (arith, slots_length T p b, slots_length_each T ps (b + part_vars T p))
 
-module _ (T : Table) {o o' : List ℕ} {r : Count} (v : VisitedTree T o o' r) where
-  pub counted : Counted T r
-  counted = record {
-    nodes = omega (arith, v.nodes);
-    variables = λ h. omega (arith, v.variables (omega arith));
-    slots = λ h. omega (arith, v.slots (omega arith), slots_length T (root_place T) 1);
-    small = v.small;
-  }
-
-  pub built : nodes (root_place T) ≤ 1024 → 5120 ≤ length o → Wrote o 0 (tree_words (records T)) o' (5 * r.nodes)
-  built h room =
-      let e : T.depth - T.depth ≡ 0 = omega arith in
-      let z : ◌≡◌ {A = ℕ} (5 * 0) 0 = omega arith in
-      let n : r.nodes ≡ 0 + nodes (root_place T) = omega (arith, v.nodes) in
-      rw n (rw (e, z) at (v.kept (omega arith) (omega arith)))
-
 -- a visit from the root on
 module _ (T : Table) (known : Known T) {w j : ℕ} (root : j ≡ T.root) (word : w ≡ get_or (inserted (0 ∷ []) j) 0 0) where
   jobs_word : w ≡ get_or (inserted (0 ∷ []) T.root) 0 0
@@ -93,8 +75,27 @@ module _ (T : Table) (known : Known T) {w j : ℕ} (root : j ≡ T.root) (word :
   pub start_inside : Inside T (record { steps = 0; jobs = w })
   start_inside = rw jobs_word (root_inside T known)
 
-  pub start_visited : {d : ℕ} {o o' : List ℕ} {r : Count} → d ≡ T.depth → VisitedPart T d 0 (label_in (record { steps = 0; jobs = w })) no_count o o' r → VisitedTree T o o' r
-  start_visited {d} {o} {o'} {r} e v = rw (e, jobs_word, root_label_lem T known) at v
+  pub start_built : {d : ℕ} (o o' : List ℕ) (r : Option Count) → d ≡ T.depth → VisitedPart T d 0 (label_in (record { steps = 0; jobs = w })) no_count o o' r
+      → Built T o o' r
+  start_built {d} o o' None e v =
+      let u : VisitedPart T T.depth 0 (root_label T) no_count o o' None = rw (e, jobs_word, root_label_lem T known) at v in
+      omega (arith, u.outcome)
+  start_built {d} o o' (Some c) e v =
+      let part : VisitedPart T T.depth 0 (root_label T) no_count o o' (Some c) = rw (e, jobs_word, root_label_lem T known) at v in
+      let u = part.outcome in
+      record {
+        counted = record {
+          few = omega (arith, u.few);
+          nodes = ap (λ (k : Count). k.nodes) u.count ∙ omega arith;
+          variables = ap (λ (k : Count). k.variables) u.count ∙ omega arith;
+          slots = ap (λ (k : Count). k.slots) u.count ∙ omega (arith, slots_length T (root_place T) 1);
+          small = u.small;
+        };
+        kept = λ room.
+            let z : T.depth - T.depth ≡ 0 = omega arith in
+            let y : ◌≡◌ {A = ℕ} (5 * 0) 0 = omega arith in
+            rw (z, y) at (u.kept room);
+      }
 
 pub no_count_lem : Small no_count
 no_count_lem = record { nodes = omega arith; variables = omega arith; slots = omega arith }

@@ -1,13 +1,13 @@
 -- Inside the encoding, nothing to believe: what the visits of nodes and of children say. The records and counts that come of them are
 -- planning's. Assumes nothing.
-use Rattle.std.specs.Prelude.{◌≡◌, Bool, true, false, List, [], ◌∷◌, ◌++◌, map, ℕ, ◌+◌, ◌-◌, ◌*◌, ◌≤◌, min, length, get_or}
-use Rattle.std.proofs.Math.Option.{Option, none, some}
+use Rattle.std.specs.Prelude.{◌≡◌, Bool, true, false, List, [], ◌∷◌, ◌++◌, map, ℕ, ◌+◌, ◌-◌, ◌*◌, ◌≤◌, ◌<◌, Option, MatchOption, length, get_or}
+use Rattle.std.proofs.Math.Option.{Option as PlanningOption, none, some}
 use Rattle.lists.specs.List.{from, Rising}
 use Rattle.lists.specs.Written.{Wrote}
 use Rattle.bitset.specs.Set.{members, inserted, set_of}
 use Rattle.planning.specs.Table.{Table, Task, step, job, Sound, Limits}
-use Rattle.planning.specs.Place.{Label as PlanningLabel, Place, slot, inner, Places, stop, also, child_label, place, row, root_label, root_place, nodes, nodes_of}
-use Rattle.planning.specs.Record.{Record, records_at, records_below}
+use Rattle.planning.specs.Place.{Label as PlanningLabel, Place, slot, inner, Places, stop, also, child_label, place, row, root_place, nodes, nodes_of}
+use Rattle.planning.specs.Record.{Record, records, records_at, records_below}
 use Rattle.planning.specs.Variable.{part_vars, parts_vars, node_vars, slots}
 use Rattle.tree.specs.Words.{tree_words}
 use Rattle.tree.specs.declared.Label.{Label}
@@ -35,7 +35,7 @@ pub record Known (T : Table) : Type 0 where
   pub limits : Limits T
 
 -- the label with one task more
-abbrev pub with_task : Label → Option Task → Label
+abbrev pub with_task : Label → PlanningOption Task → Label
 with_task l none = l
 with_task l (some (step s)) = record { steps = get_or (inserted (l.steps ∷ []) s) 0 0; jobs = l.jobs }
 with_task l (some (job j)) = record { steps = l.steps; jobs = get_or (inserted (l.jobs ∷ []) j) 0 0 }
@@ -51,24 +51,30 @@ abbrev mutual
   slots_of_each stop = 0
   slots_of_each (also p ps) = slots_of p + slots_of_each ps
 
--- "Has the tree at most 1,024 nodes?": every number of nodes above that is counted as 1,025. A node has at most 256 variables
+-- "Has the tree at most 1,024 nodes?": a count goes no further. A node has at most 256 variables
 pub record Small (c : Count) : Type 0 where
-  pub nodes : c.nodes ≤ 1025
+  pub nodes : c.nodes ≤ 1024
   pub variables : c.variables ≤ 256 * c.nodes
   pub slots : c.slots ≤ c.nodes
 
--- A part of n nodes, v variables and s slots, with these records, was visited from the count c on: r is the count then, and o' what the
--- lent words o hold, where there is room for all records. Left free: variables and slots past 1,024 nodes, of which only `small` is known; the
--- lent words, where there is no room for all records
-pub record Visited (n v s : ℕ) (rs : List Record) (c : Count) (o o' : List ℕ) (r : Count) : Type 0 where
-  pub nodes : r.nodes ≡ min (c.nodes + n) 1025
-  pub variables : c.nodes + n ≤ 1024 → r.variables ≡ c.variables + v
-  pub slots : c.nodes + n ≤ 1024 → r.slots ≡ c.slots + s
-  pub small : Small r
-  pub kept : c.nodes + n ≤ 1024 → 5 * (c.nodes + n) ≤ length o → Wrote o (5 * c.nodes) (tree_words rs) o' (5 * (c.nodes + n))
+-- the count behind n nodes more, with v variables and s slots
+abbrev pub counted_on : Count → (n v s : ℕ) → Count
+counted_on c n v s = record { nodes = c.nodes + n; variables = c.variables + v; slots = c.slots + s }
+
+-- A part of n nodes, v variables and s slots, with these records, was visited from the count c on, and d is the count then; o' is what the lent
+-- words o hold. Left free: the lent words, where there is no room for all records
+pub record VisitedTo (n v s : ℕ) (rs : List Record) (c : Count) (o o' : List ℕ) (d : Count) : Type 0 where
+  pub few : c.nodes + n ≤ 1024
+  pub count : d ≡ counted_on c n v s
+  pub small : Small d
+  pub kept : 5 * d.nodes ≤ length o → Wrote o (5 * c.nodes) (tree_words rs) o' (5 * d.nodes)
+
+-- so it was, or there are too many nodes. Left free: the lent words then
+pub record Visited (n v s : ℕ) (rs : List Record) (c : Count) (o o' : List ℕ) (r : Option Count) : Type 0 where
+  pub outcome : MatchOption r (1024 < c.nodes + n) (VisitedTo n v s rs c o o')
 
 -- the part of the node that may hold L and lies `left` above depth K
-abbrev pub VisitedPart : Table → (left parent : ℕ) → PlanningLabel → Count → List ℕ → List ℕ → Count → Type 0
+abbrev pub VisitedPart : Table → (left parent : ℕ) → PlanningLabel → Count → List ℕ → List ℕ → Option Count → Type 0
 VisitedPart T left u L c o o' r =
     let p = place T left L in
     Visited (nodes p) (part_vars T p) (slots_of p) (records_at p (T.depth - left) u c.nodes) c o o' r
@@ -77,7 +83,7 @@ VisitedPart T left u L c o o' r =
 abbrev pub children_from : Table → (left : ℕ) → PlanningLabel → (i m : ℕ) → Places
 children_from T left L i m = row (λ M. place T left M) (map (child_label T L) (from i m))
 
-abbrev pub VisitedParts : Table → (left parent : ℕ) → PlanningLabel → (i m : ℕ) → Count → List ℕ → List ℕ → Count → Type 0
+abbrev pub VisitedParts : Table → (left parent : ℕ) → PlanningLabel → (i m : ℕ) → Count → List ℕ → List ℕ → Option Count → Type 0
 VisitedParts T left u L i m c o o' r =
     let ps = children_from T left L i m in
     Visited (nodes_of ps) (parts_vars T ps) (slots_of_each ps) (records_below ps (T.depth - left) u c.nodes) c o o' r
@@ -85,9 +91,6 @@ VisitedParts T left u L i m c o o' r =
 -- the whole tree
 abbrev pub no_count : Count
 no_count = record { nodes = 0; variables = 0; slots = 0 }
-
-abbrev pub VisitedTree : Table → List ℕ → List ℕ → Count → Type 0
-VisitedTree T o o' r = VisitedPart T T.depth 0 (root_label T) no_count o o' r
 
 -- a record put at a node's place, where there is room for it. Left free: the words, where there is none
 pub record Put (at depth parent children steps jobs : ℕ) (o o' : List ℕ) : Type 0 where
@@ -101,10 +104,20 @@ node_total T = nodes (root_place T)
 abbrev pub slot_total : Table → ℕ
 slot_total T = length (slots T)
 
--- What was counted: all nodes, as 1,025 where there are more than 1,024; variables and slots where there are not more. Left free: variables and
--- slots of more than 1,024 nodes, of which only `small` is known
-pub record Counted (T : Table) (r : Count) : Type 0 where
-  pub nodes : r.nodes ≡ min (node_total T) 1025
-  pub variables : node_total T ≤ 1024 → r.variables ≡ node_vars T
-  pub slots : node_total T ≤ 1024 → r.slots ≡ slot_total T
-  pub small : Small r
+-- what was counted, where there are at most 1,024 nodes
+pub record Counted (T : Table) (c : Count) : Type 0 where
+  pub few : node_total T ≤ 1024
+  pub nodes : c.nodes ≡ node_total T
+  pub variables : c.variables ≡ node_vars T
+  pub slots : c.slots ≡ slot_total T
+  pub small : Small c
+
+-- The whole tree was counted, and its records stand in front in the lent words o', which were o. Left free: the words, where there is no room for all
+-- records
+pub record BuiltTo (T : Table) (o o' : List ℕ) (c : Count) : Type 0 where
+  pub counted : Counted T c
+  pub kept : 5 * c.nodes ≤ length o → Wrote o 0 (tree_words (records T)) o' (5 * c.nodes)
+
+-- so it was, or it has more than 1,024 nodes. Left free: the lent words then
+abbrev pub Built : Table → List ℕ → List ℕ → Option Count → Type 0
+Built T o o' r = MatchOption r (1024 < node_total T) (BuiltTo T o o')

@@ -6,4 +6,3 @@ pub mod Literals
 pub mod Header
 -- the loops' invariants
 pub mod Loops
-pub mod Copied

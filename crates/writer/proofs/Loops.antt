@@ -1,7 +1,7 @@
 -- The loops' invariants: how each starts, goes on and ends.
 -- By the laws of literals and of writes.
 use mathlib.Core.Path.{◌≡◌, refl, sym, ap, ◌∙◌}
-use mathlib.Core.List.{List, [], ◌∷◌, ◌++◌, append_assoc}
+use mathlib.Core.List.{List, [], ◌∷◌, ◌++◌}
 use Prim.Native.Nat.{ℕ, suc, zero, ◌+◌, ◌*◌, ◌^◌, ◌≤◌, ◌<◌}
 use native.Mathlib.Omega.{arith}
 use lib.ListN.{length, get_or, take, length-append}
@@ -83,9 +83,6 @@ module _ {cs o₀ o : List ℕ} {s a i : ℕ} (u : Laid cs o₀ s o a i) where
   pub laid_end : length cs ≤ i → a + 2 ≤ length o
   laid_end h = omega (arith, u.text.end, u.same, u.room, length_line cs, ap length (all_of cs i h))
 
-  pub laid_all : {o₁ o₂ : List ℕ} {r₁ r₂ : ℕ} → length cs ≤ i → Wrote o a (48 ∷ []) o₁ r₁ → Wrote o₁ r₁ (10 ∷ []) o₂ r₂
-      → Wrote o₀ s (clause_line (clause_in cs)) o₂ r₂
-  laid_all h v w =
-      let k : s ≤ length o₀ = omega (arith, u.room) in
-      wrote_same (ap (λ (l : List ℕ). l ++ (48 ∷ []) ++ (10 ∷ [])) (all_of cs i h) ∙ append_assoc (literals cs) (48 ∷ []) (10 ∷ []))
-      (wrote_append k (wrote_append k u.text v) w)
+  pub laid_all : {o₁ : List ℕ} {r₁ : ℕ} → length cs ≤ i → Wrote o a (48 ∷ 10 ∷ []) o₁ r₁ → Wrote o₀ s (clause_line (clause_in cs)) o₁ r₁
+  laid_all h w =
+      wrote_same (ap (λ (l : List ℕ). l ++ (48 ∷ 10 ∷ [])) (all_of cs i h)) (wrote_append (omega (arith, u.room)) u.text w)

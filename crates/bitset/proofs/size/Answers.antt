@@ -1,12 +1,14 @@
--- `bitset::size` meets its contract. The loop's invariant: n counts the members in the words before k. The measure is the words left.
+-- `bitset::size` meets its contract: the fold counts the members word by word.
 -- Assumes nothing.
-use Rattle.std.proofs.Common.{◌≡◌, ◌+◌, ◌%◌, ◌^◌, get_or}
+use Rattle.std.proofs.Common.{rules, tests, ℕ, ◌+◌, ◌%◌, ◌^◌, ◌∙◌}
+use Rattle.std.proofs.lemmas.Iterator.{YieldsList-from_slice}
+use Rattle.std.proofs.lemmas.Iterator.Consumers.{fold_from_yields_List}
 use lib.Count.{ones}
-use Rattle.bitset.proofs.Loops.{counted_word}
+use Rattle.bitset.proofs.Loops.{counted_fold}
 use Rattle.bitset.proofs.size.Goals as goal
 
-pub loop-k-preserved : goal.loop-k-preserved
-loop-k-preserved c =
-    let u = c.loop-k in
-    let e : c.wrapping_add_usize-n.result ≡ (u.n + ones (get_or c.args.ws.now u.k 0)) % 2 ^ 64 = c.wrapping_add_usize-n.ensures.value in
-    rw e (counted_word u.invariant c.loop-k-test.true (c.shared_slice_known-in-loop-k-1.given u.k).fits)
+pub returns : goal.returns
+returns c =
+    let ws = c.args.ws.now in
+    fold_from_yields_List _ (λ (n w : ℕ). (n + ones w) % 2 ^ 64) 0 c.fold.result c.fold.ensures.ran (YieldsList-from_slice ws cc) (λ a x b q k. search (rules, tests))
+    ∙ counted_fold ws (λ i. c.type_inv.ws i)

@@ -1,15 +1,14 @@
--- `bitset::subtract` meets its contract. The loop's invariant: the words before k are rid of their partners' members. The measure is the words left.
+-- `bitset::subtract` meets its contract, word by word.
 -- Assumes nothing.
-use Rattle.std.proofs.Common.{ltb-true}
-use Rattle.bitset.proofs.Loops.{combined_none, combined_word, combined_words}
+use Rattle.std.proofs.Common.{arith}
+use Rattle.bitset.proofs.Loops.{combined_none, combined_word, combined_end}
 use Rattle.bitset.proofs.subtract.Goals as goal
 
 pub loop-k-init : goal.loop-k-init
 loop-k-init c = combined_none _ _
 
 pub loop-k-preserved : goal.loop-k-preserved
-loop-k-preserved c = combined_word c.loop-k.invariant (ltb-true _ _ c.if-k-vs.true-raw)
+loop-k-preserved c = combined_word c.loop-k.invariant (omega arith)
 
-pub returns-after-loop-k : goal.returns-after-loop-k
-returns-after-loop-k c =
-    combined_words c.loop-k.invariant c.loop-k-test.false
+pub returns : goal.returns
+returns c = combined_end c.loop-k.invariant c.min-k-end.ensures c.loop-k-test.false

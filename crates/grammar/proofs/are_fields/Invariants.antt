@@ -1,10 +1,12 @@
-use Prim.Native.Nat.{◌-◌}
-use lib.ListN.{length}
-use Rattle.grammar.proofs.Lines.{Fields}
+-- The fields and forms that are left give the same as all of them.
+use mathlib.Core.Path.{◌≡◌}
+use lib.ListN.{drop}
+use Rattle.lines.specs.Parts.{split}
+use Rattle.grammar.specs.Byte.{tab}
+use Rattle.grammar.specs.Line.{formed}
+use Rattle.grammar.specs.Field.{forms_of}
+use Rattle.grammar.proofs.Lines.{left_parts}
 use Rattle.grammar.proofs.are_fields.Given as goal
 
-abbrev pub invariant-loop-j : goal.invariant-loop-j
-invariant-loop-j l = Fields l.s l.forms l.a l.b l.i l.j
-
-abbrev pub decreases-loop-j : goal.decreases-loop-j
-decreases-loop-j l = length l.forms - l.j
+abbrev pub invariant-loop-form : goal.invariant-loop-form
+invariant-loop-form l = formed (left_parts l.left) (forms_of (drop l.form-index l.forms)) ≡ formed (split tab l.fn.fields) (forms_of l.fn.forms)

@@ -1,11 +1,14 @@
-use Prim.Native.Nat.{◌-◌}
+-- The lines that are left give the same as all of them.
+use mathlib.Core.Path.{◌≡◌}
 use lib.ListN.{length}
-use Rattle.grammar.proofs.Scans.{Left}
-use Rattle.grammar.proofs.Files.{formed_lines}
+use Rattle.lists.specs.List.{all}
+use Rattle.lines.specs.Bytes.{LF}
+use Rattle.lines.specs.Parts.{ended}
+use Rattle.grammar.specs.Line.{is_line}
 use Rattle.grammar.proofs.are_lines.Given as goal
 
-abbrev pub invariant-loop-a : goal.invariant-loop-a
-invariant-loop-a l = Left formed_lines l.s 0 (length l.s) l.a
+abbrev pub invariant-loop-line : goal.invariant-loop-line
+invariant-loop-line l = all is_line (ended LF l.text) ≡ all is_line (ended LF l.fn.file)
 
-abbrev pub decreases-loop-a : goal.decreases-loop-a
-decreases-loop-a l = length l.s - l.a
+abbrev pub decreases-loop-line : goal.decreases-loop-line
+decreases-loop-line l = length l.text

@@ -1,11 +1,13 @@
-use Rattle.grammar.proofs.Lines.{at_none, at_more, at_done}
+use Rattle.std.proofs.Common.{rules, tests}
+use Rattle.std.proofs.lemmas.Iterator.Consumers.{nth_from_yields_List}
+use Rattle.std.proofs.lemmas.Iterator.Splits.{YieldsList-from_slice_split}
+use lib.Dec.{eqb}
+use mathlib.Core.Path.{refl}
+use Rattle.grammar.proofs.Lines.{field_is}
 use Rattle.grammar.proofs.field_at.Goals as goal
 
-pub returns-then-e-b : goal.returns-then-e-b
-returns-then-e-b c = at_none c.loop-j.invariant c.cut-e.ensures c.requires.1 c.loop-j-test.true c.if-e-b.true
-
-pub loop-j-preserved : goal.loop-j-preserved
-loop-j-preserved c = at_more c.loop-j.invariant c.cut-e.ensures c.requires.1 c.loop-j-test.true c.if-e-b.false
-
 pub returns : goal.returns
-returns c = at_done c.loop-j.invariant c.cut-e-2.ensures c.requires.1 c.loop-j-test.false
+returns c =
+    field_is c.args.line.now c.args.k _ c.nth.result _ refl c.unwrap_or.ensures
+    (nth_from_yields_List c.nth.result _ c.args.k c.nth.ensures.ran
+    (YieldsList-from_slice_split _ (λ b. eqb b 9) c.args.line.now c.split.ensures.rest c.split.ensures.done c.split.ensures.closure (λ x b q k. search (rules, tests))))

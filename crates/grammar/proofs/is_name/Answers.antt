@@ -1,19 +1,24 @@
-use mathlib.Core.Path.{◌∙◌}
-use Rattle.lists.proofs.Order.{ne_lt}
-use Rattle.lists.proofs.Bool.{said_no, said_yes}
-use Rattle.grammar.proofs.Names.{name_none, name_long, name_start, name_rest}
+use native.Mathlib.Omega.{arith}
+use Rattle.std.proofs.Common.{rules, tests}
+use Rattle.std.proofs.lemmas.Iterator.{YieldsList-from_slice}
+use Rattle.std.proofs.lemmas.Iterator.Search.{all_from_yields_List}
+use Rattle.grammar.specs.Byte.{of_name}
+use Rattle.grammar.proofs.Names.{name_none, name_low, name_high, name_long, name_rest}
 use Rattle.grammar.proofs.is_name.Goals as goal
 
-pub returns-then-a-b : goal.returns-then-a-b
-returns-then-a-b c = name_none _ _ _ c.if-a-b.true
+pub returns-then-rest-le11 : goal.returns-then-rest-le11
+returns-then-rest-le11 c =
+    name_rest c.args.field.now _ (omega arith) (omega arith) (omega arith) (omega arith)
+    (all_from_yields_List of_name _ _ c.all.result c.all.ensures.ran (YieldsList-from_slice _ (cc)) (λ x b q k. search (rules, tests)))
 
-pub returns-then-b-a-gt12 : goal.returns-then-b-a-gt12
-returns-then-b-a-gt12 c = let p = c.requires in name_long _ _ _ (ne_lt p.0 c.if-a-b.false) p.1 c.if-b-a-gt12.true
+pub returns-else-rest-le11 : goal.returns-else-rest-le11
+returns-else-rest-le11 c = name_long c.args.field.now (omega arith) (omega arith)
 
-pub returns-then-not-is_lower : goal.returns-then-not-is_lower
-returns-then-not-is_lower c = let p = c.requires in name_start _ _ _ (ne_lt p.0 c.if-a-b.false) p.1 (said_no c.is_lower.ensures c.if-not-is_lower.true-raw)
+pub returns-in_default : goal.returns-in_default
+returns-in_default c = name_none c.args.field.now (omega arith)
 
-pub returns : goal.returns
-returns c =
-    let p = c.requires in c.all_of_name.ensures ∙ name_rest _ _ _ (ne_lt p.0 c.if-a-b.false) p.1 c.if-b-a-gt12.false
-    (said_yes c.is_lower.ensures c.if-not-is_lower.false-raw)
+pub returns-in_default-2 : goal.returns-in_default-2
+returns-in_default-2 c = name_low c.args.field.now (omega arith) (omega arith)
+
+pub returns-in_default-3 : goal.returns-in_default-3
+returns-in_default-3 c = name_high c.args.field.now (omega arith) (omega arith)

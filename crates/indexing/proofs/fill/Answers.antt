@@ -5,4 +5,4 @@ use Rattle.indexing.proofs.fill.Goals as goal
 
 pub returns : goal.returns
 returns c =
-    index_put c.requires.0 c.requires.1 c.put_three-a.ensures c.put_nodes-b.ensures c.put_slots-d.ensures c.put_all_meanings.ensures
+    index_put c.requires.0 c.requires.1 c.put_words-a.ensures c.put_nodes-b.ensures c.put_slots-d.ensures c.put_meanings.ensures

@@ -13,12 +13,12 @@ loop-m-init c =
 pub put_if-a-requires : goal.put_if-a-requires
 put_if-a-requires c =
     picked_room c.loop-m.invariant (method_test (table_in c.args.ws.now) c.args.jobs c.loop-m.m c.job_of.ensures c.holds.ensures)
-    (below c.methods.ensures c.loop-m-test.true)
+    (below c.methods-m-end.ensures c.loop-m-test.true)
 
 pub loop-m-preserved : goal.loop-m-preserved
 loop-m-preserved c =
     picked_more c.loop-m.invariant (method_test (table_in c.args.ws.now) c.args.jobs c.loop-m.m c.job_of.ensures c.holds.ensures)
-    (below c.methods.ensures c.loop-m-test.true) c.put_if-a.ensures
+    (below c.methods-m-end.ensures c.loop-m-test.true) c.put_if-a.ensures
 
 pub returns : goal.returns
-returns c = picked_all c.loop-m.invariant (omega (arith, c.methods.ensures, c.loop-m-test.false))
+returns c = picked_all c.loop-m.invariant (omega (arith, c.methods-m-end.ensures, c.loop-m-test.false))

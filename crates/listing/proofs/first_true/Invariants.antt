@@ -1,12 +1,8 @@
--- `listing::first_true` meets its contract. The loop's invariant: none of the first i variables is true. The measure is the variables left.
+-- `listing::first_true` meets its contract. The loop's invariant: none of the first i variables is true.
 -- Assumes nothing.
-use Prim.Native.Nat.{◌-◌}
 use Rattle.listing.specs.Walk.{value_of}
 use Rattle.listing.proofs.Sought.{Sought}
 use Rattle.listing.proofs.first_true.Given as goal
 
 abbrev pub invariant-loop-i : goal.invariant-loop-i
 invariant-loop-i l = Sought (value_of l.values) l.v l.k l.i
-
-abbrev pub decreases-loop-i : goal.decreases-loop-i
-decreases-loop-i l = l.k - l.i

@@ -1,11 +1,19 @@
-use Rattle.outline.proofs.Names.{news_out, news_more, news_done}
+use Rattle.std.proofs.Common.{◌∙◌, sym}
+use Rattle.outline.proofs.Names.{new_out, new_more, new_none, within_rest}
 use Rattle.outline.proofs.are_new.Goals as goal
 
-pub returns-then-find-hi : goal.returns-then-find-hi
-returns-then-find-hi c = news_out c.loop-i.invariant c.loop-i-test.true c.requires.2 (c.requires.3.at _ c.loop-i-test.true) c.find.ensures c.if-find-hi.true
+pub returns-then-is_some : goal.returns-then-is_some
+returns-then-is_some c =
+    sym (new_out c.args.file.now c.loop-first.rest.now c.in-Some.behind.now c.in-Some.first.now c.in-Some.ensures.cases.0
+    c.of.ensures c.find.ensures c.is_some.ensures c.if-is_some.true) ∙ c.loop-first.invariant.tells
 
-pub loop-i-preserved : goal.loop-i-preserved
-loop-i-preserved c = news_more c.loop-i.invariant c.loop-i-test.true c.requires.2 (c.requires.3.at _ c.loop-i-test.true) c.find.ensures c.if-find-hi.false
+pub loop-first-preserved : goal.loop-first-preserved
+loop-first-preserved c =
+    record {
+      within = within_rest c.args.file.now c.in-Some.first.now c.loop-first.rest.now c.in-Some.behind.now c.in-Some.ensures.cases.0 c.loop-first.invariant.within;
+      tells = sym (new_more c.args.file.now c.loop-first.rest.now c.in-Some.behind.now c.in-Some.first.now c.in-Some.ensures.cases.0
+          c.of.ensures c.find.ensures c.is_some.ensures c.if-is_some.false) ∙ c.loop-first.invariant.tells;
+    }
 
 pub returns : goal.returns
-returns c = news_done c.loop-i.invariant c.loop-i-test.false
+returns c = sym (new_none c.args.file.now c.loop-first.rest.now c.in_default.ensures.cases) ∙ c.loop-first.invariant.tells

@@ -1,12 +1,11 @@
-use Prim.Native.Nat.{◌-◌}
-use Rattle.lines.proofs.Lines.{On}
-use Rattle.outline.proofs.Questions.{Each}
+use Rattle.std.proofs.Common.{◌≡◌, length}
+use Rattle.lists.specs.List.{all}
+use Rattle.lines.specs.Parts.{lines_of}
 use Rattle.outline.specs.Questions.{short}
-use Rattle.lines.specs.Cut.{lines_from}
 use Rattle.outline.proofs.bodies_fit.Given as goal
 
-abbrev pub invariant-loop-i : goal.invariant-loop-i
-invariant-loop-i l = On l.s l.at l.i l.a × Each short (lines_from l.s l.at) l.n l.i
+abbrev pub invariant-loop-line : goal.invariant-loop-line
+invariant-loop-line l = all short (lines_of l.rest) ≡ all short (lines_of l.text)
 
-abbrev pub decreases-loop-i : goal.decreases-loop-i
-decreases-loop-i l = l.n - l.i
+abbrev pub decreases-loop-line : goal.decreases-loop-line
+decreases-loop-line l = length l.rest

@@ -1,9 +1,6 @@
-use Prim.Native.Nat.{◌-◌, ◌≤◌}
-use Rattle.outline.proofs.Names.{Filled}
+use Rattle.std.proofs.Common.{◌≡◌, length}
+use Rattle.outline.proofs.Spans.{Filled}
 use Rattle.outline.proofs.declare.Given as goal
 
-abbrev pub invariant-loop-i : goal.invariant-loop-i
-invariant-loop-i l = (l.i ≤ l.n) × Filled l.s l.start l.size l.i l.a
-
-abbrev pub decreases-loop-i : goal.decreases-loop-i
-decreases-loop-i l = l.n - l.i
+abbrev pub invariant-loop-name : goal.invariant-loop-name
+invariant-loop-name l = record { wide : length l.name-items ≡ l.n; filled : Filled l.file l.name-items l.name-index l.at l.rest }

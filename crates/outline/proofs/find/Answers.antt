@@ -1,14 +1,13 @@
-use mathlib.Core.Path.{sym, ◌∙◌}
-use Rattle.outline.proofs.Names.{passed_hit, passed_more, passed_all}
+use Rattle.std.proofs.Common.{rules, tests}
+use Rattle.std.proofs.lemmas.Iterator.{YieldsList-from_slice}
+use Rattle.std.proofs.lemmas.Iterator.Search.{position_from_yields_List}
+use Rattle.lines.specs.Bytes.{same_bytes}
+use Rattle.outline.specs.Index.{shown}
+use Rattle.outline.proofs.Names.{number_found}
 use Rattle.outline.proofs.find.Goals as goal
 
-pub returns-then-is_same : goal.returns-then-is_same
-returns-then-is_same c =
-    passed_hit c.loop-i.invariant c.loop-i-test.true c.requires.2 (c.requires.5.at _ c.loop-i-test.true) (sym c.is_same.ensures ∙ c.if-is_same.true)
-
-pub loop-i-preserved : goal.loop-i-preserved
-loop-i-preserved c =
-    passed_more c.loop-i.invariant c.loop-i-test.true c.requires.2 (c.requires.5.at _ c.loop-i-test.true) (sym c.is_same.ensures ∙ c.if-is_same.false)
-
 pub returns : goal.returns
-returns c = passed_all c.loop-i.invariant c.loop-i-test.false
+returns c =
+    number_found c.args.file.now c.args.name.now c.args.names.now _
+    (position_from_yields_List (λ p. same_bytes c.args.name.now (shown c.args.file.now p)) _ _ _ c.position.ensures.ran
+    (YieldsList-from_slice c.args.names.now cc) (λ x b q k. search (rules, tests)))

@@ -1,66 +1,32 @@
--- `outline::outline_of` meets its contract: question by question, by the laws of the outline.
--- Assumes nothing.
-use native.Mathlib.Omega.{arith}
-use Rattle.outline.proofs.Outlined.{outlined_second, outlined_early, small, few, enough, outlined_sixth, outlined}
-use Rattle.lists.proofs.Bool.{said_no, said_yes}
+use Rattle.std.proofs.Common.{◌∙◌, sym, arith, rules, true, false}
+use Rattle.outline.proofs.ByKind.{shape_at, declared_few, names_few, within_part, sixth}
+use Rattle.outline.proofs.Questions.{refused, asked6}
 use Rattle.outline.proofs.outline_of.Goals as goal
 
-pub returns-then-not-fits_and_ends : goal.returns-then-not-fits_and_ends
-returns-then-not-fits_and_ends c = outlined_second c.refused.ensures (said_no c.fits_and_ends.ensures c.if-not-fits_and_ends.true-raw)
+pub returns-in_err-shape-clause-question : goal.returns-in_err-shape-clause-question
+returns-in_err-shape-clause-question c = search (rules, refused c.args.file.now c.in_err-shape.field-0.0 c.in_err-shape.ensures.question)
 
-pub returns-then-q-ne0 : goal.returns-then-q-ne0
-returns-then-q-ne0 c =
-    let find-shape = c.find_shape-h in
-    let refused2 = c.refused-then-q-ne0 in
-    let first-unmet = c.first_unmet-q in
-    let if2 = c.if-q-ne0 in
-    outlined_early _ _ find-shape.ensures _ refused2.ensures first-unmet.ensures if2.true
-
-pub overflow_add-n : goal.overflow_add-n
-overflow_add-n c = omega (arith, small _ _ c.find_shape-h.ensures _ c.first_unmet-q.ensures c.if-q-ne0.false)
-
-pub overflow_add-n-2 : goal.overflow_add-n-2
-overflow_add-n-2 c =
-    let find-shape = c.find_shape-h in
-    let first-unmet = c.first_unmet-q in
-    let if2 = c.if-q-ne0 in
-    omega (arith, small _ _ find-shape.ensures _ first-unmet.ensures if2.false)
-
-pub declare-d-requires : goal.declare-d-requires
-declare-d-requires c =
-    let find-shape = c.find_shape-h in
-    let first-unmet = c.first_unmet-q in
-    let if2 = c.if-q-ne0 in
-    (few _ _ find-shape.ensures _ first-unmet.ensures if2.false, enough _ _ find-shape.ensures _ first-unmet.ensures if2.false)
+pub declare-names-requires : goal.declare-names-requires
+declare-names-requires c =
+    let u = shape_at c.in_ok-shape.ensures.of c.in_ok-shape.shape.shaped in
+    (names_few c.args.file.now u, declared_few c.args.file.now u)
 
 pub are_new-requires : goal.are_new-requires
 are_new-requires c =
-    let find-shape = c.find_shape-h in
-    let first-unmet = c.first_unmet-q in
-    let if2 = c.if-q-ne0 in
-    let declare = c.declare-d in (
-      omega arith,
-      few _ _ find-shape.ensures _ first-unmet.ensures if2.false,
-      enough _ _ find-shape.ensures _ first-unmet.ensures if2.false,
-      declare.ensures,
-    )
+    let u = shape_at c.in_ok-shape.ensures.of c.in_ok-shape.shape.shaped in
+    let few = names_few c.args.file.now u in
+    within_part c.args.file.now c.declare-names.result c.declare-names.ensures (omega arith) (declared_few c.args.file.now u) _ 0 (omega arith)
 
-pub returns-then-not-are_new : goal.returns-then-not-are_new
-returns-then-not-are_new c =
-    let find-shape = c.find_shape-h in
-    let first-unmet = c.first_unmet-q in
-    let if2 = c.if-q-ne0 in
-    let refused3 = c.refused-then-not-are_new in
-    let are-new = c.are_new in
-    let if3 = c.if-not-are_new in
-    outlined_sixth _ _ find-shape.ensures _ first-unmet.ensures if2.false refused3.ensures (said_no are-new.ensures if3.true-raw)
+pub returns-then-not-are_new-clause-question : goal.returns-then-not-are_new-clause-question
+returns-then-not-are_new-clause-question c =
+    let u = shape_at c.in_ok-shape.ensures.of c.in_ok-shape.shape.shaped in
+    let few = names_few c.args.file.now u in
+    asked6 c.args.file.now c.in_ok-shape.ensures.question false
+    (sym c.if-not-are_new.true ∙ c.are_new.ensures ∙ sixth c.args.file.now u c.declare-names.result c.declare-names.ensures (omega arith))
 
-pub returns : goal.returns
-returns c =
-    let find-shape = c.find_shape-h in
-    let first-unmet = c.first_unmet-q in
-    let if2 = c.if-q-ne0 in
-    let declare = c.declare-d in
-    let are-new = c.are_new in
-    let if3 = c.if-not-are_new in
-    outlined _ _ find-shape.ensures _ first-unmet.ensures if2.false _ declare.ensures (said_yes are-new.ensures if3.false-raw)
+pub returns-clause-question : goal.returns-clause-question
+returns-clause-question c =
+    let u = shape_at c.in_ok-shape.ensures.of c.in_ok-shape.shape.shaped in
+    let few = names_few c.args.file.now u in
+    asked6 c.args.file.now c.in_ok-shape.ensures.question true
+    (sym c.if-not-are_new.false ∙ c.are_new.ensures ∙ sixth c.args.file.now u c.declare-names.result c.declare-names.ensures (omega arith))

@@ -4,8 +4,7 @@ use Rattle.programs.proofs.Writing.{lines_refused}
 use Rattle.programs.proofs.formula_part.Goals as goal
 
 pub lines_part-requires : goal.lines_part-requires
-lines_part-requires c =
-    ((c.in-Accepted.field-0, c.in-Accepted.field-1, rw c.in-Accepted.is at c.check-checked.ensures), c.requires)
+lines_part-requires c = ((c.in-Ok.counts.nodes, c.in-Ok.counts.variables, rw c.in-Ok.is at c.check.ensures), c.requires)
 
-pub returns-in-Refused : goal.returns-in-Refused
-returns-in-Refused c = lines_refused c.args.file.now (rw c.in-Refused.is at c.check-checked.ensures) c.refused_part.ensures
+pub returns-in-Err : goal.returns-in-Err
+returns-in-Err c = lines_refused c.args.file.now (rw c.in-Err.is at c.check.ensures) c.refused_part.ensures

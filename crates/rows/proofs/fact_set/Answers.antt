@@ -1,73 +1,38 @@
-use mathlib.Core.Path.{sym, ◌∙◌}
+use mathlib.Core.Path.{refl, sym, ◌∙◌}
+use mathlib.Core.List.{List}
+use Prim.Native.Nat.{ℕ}
+use Rattle.std.proofs.Common.{Bor}
+use Rattle.std.proofs.lemmas.Result.{err_from_is_err_and}
 use Rattle.rows.specs.Words.{fact_words}
-use Rattle.rows.proofs.FactList.{listing_first, listing_out, listing_twice, listing_last, listing_more, facts_off, names_hyphen, names_parts}
-use Rattle.rows.proofs.Counts.{count_facts, facts_few, lt_count, le_count}
+use Rattle.rows.proofs.Counts.{asked_err, facts_few}
+use Rattle.rows.proofs.FactList.{adding_first, adding_out, adding_twice, adding_more, adding_done}
+use Rattle.rows.proofs.Names.{left_first, left_more}
 use Rattle.rows.proofs.fact_set.Goals as goal
 
-pub returns-then-is_hyphen : goal.returns-then-is_hyphen
-returns-then-is_hyphen c = names_hyphen fact_words _ _ _ (facts_few c.requires.0) c.is_hyphen.ensures c.if-is_hyphen.true
+pub loop-left-init : goal.loop-left-init
+loop-left-init c = adding_first fact_words _ _ _ (left_first (λ (x : Bor (List ℕ)). x.now) c.names_of-left.result c.names_of-left.ensures)
 
-pub loop-h-init : goal.loop-h-init
-loop-h-init c = listing_first fact_words _ _ _ _ c.requires.1
-
-pub returns-then-k-h : goal.returns-then-k-h
-returns-then-k-h c =
-    let is-hyphen = c.is_hyphen in
-    let if1 = c.if-is_hyphen in
-    let loop = c.loop-h in
-    let cut = c.cut-e in
-    let pre = c.requires in
-    let look_up = c.look_up-k in
-    let if2 = c.if-k-h in
-    names_parts _ _ is-hyphen.ensures if1.false
-    (facts_off loop.invariant.adding.wide (listing_out loop.invariant cut.ensures pre.2 look_up.ensures (le_count (count_facts pre.0) if2.true)))
+pub returns-in_err-fact : goal.returns-in_err-fact
+returns-in_err-fact c =
+    let p = err_from_is_err_and c.from_residual.result c.from_residual.ensures.1 in
+    let q = left_more (λ (x : Bor (List ℕ)). x.now) c.loop-left.left c.split_first.result.1 c.in-Some.names c.split_first.result.0.now c.in-Some.is
+    c.split_first.ensures.parts in
+    let n = c.in_err-fact.ensures in
+    asked_err _ _ p.1 p.2 (adding_out c.loop-left.invariant q n.0, n.1)
 
 pub returns-then-has : goal.returns-then-has
 returns-then-has c =
-    let is-hyphen = c.is_hyphen in
-    let if1 = c.if-is_hyphen in
-    let loop = c.loop-h in
-    let cut = c.cut-e in
-    let pre = c.requires in
-    let look_up = c.look_up-k in
-    let if2 = c.if-k-h in
-    let has = c.has in
-    let if3 = c.if-has in
-    names_parts _ _ is-hyphen.ensures if1.false
-    (facts_off loop.invariant.adding.wide
-    (listing_twice loop.invariant cut.ensures pre.2 look_up.ensures (lt_count (count_facts pre.0) if2.false) (sym has.ensures ∙ if3.true)))
+    let q = left_more (λ (x : Bor (List ℕ)). x.now) c.loop-left.left c.split_first.result.1 c.in-Some.names c.split_first.result.0.now c.in-Some.is
+    c.split_first.ensures.parts in
+    let n = c.in_ok-fact.ensures in
+    (adding_twice c.loop-left.invariant q n (sym c.has.ensures ∙ c.if-has.true), refl)
 
-pub returns-then-e-b : goal.returns-then-e-b
-returns-then-e-b c =
-    let is-hyphen = c.is_hyphen in
-    let if1 = c.if-is_hyphen in
-    let insert = c.insert in
-    let loop = c.loop-h in
-    let cut = c.cut-e in
-    let pre-from = c in
-    let pre = pre-from.requires in
-    let look_up = c.look_up-k in
-    let if2 = c.if-k-h in
-    let has = c.has in
-    let if3 = c.if-has in
-    let if4 = c.if-e-b in
-    names_parts _ _ is-hyphen.ensures if1.false
-    (rw insert.ensures
-    (listing_last loop.invariant cut.ensures pre.2 look_up.ensures (lt_count (count_facts pre.0) if2.false) (facts_few pre.0)
-    (sym has.ensures ∙ if3.false) if4.true))
+pub loop-left-preserved : goal.loop-left-preserved
+loop-left-preserved c =
+    let q = left_more (λ (x : Bor (List ℕ)). x.now) c.loop-left.left c.split_first.result.1 c.in-Some.names c.split_first.result.0.now c.in-Some.is
+    c.split_first.ensures.parts in
+    let n = c.in_ok-fact.ensures in
+    rw c.insert.ensures (adding_more c.loop-left.invariant q n (facts_few c.args.o.now.shape.shaped) (sym c.has.ensures ∙ c.if-has.false))
 
-pub loop-h-preserved : goal.loop-h-preserved
-loop-h-preserved c =
-    let insert = c.insert in
-    let loop = c.loop-h in
-    let cut = c.cut-e in
-    let pre-from = c in
-    let pre = pre-from.requires in
-    let look_up = c.look_up-k in
-    let if2 = c.if-k-h in
-    let has = c.has in
-    let if3 = c.if-has in
-    let if4 = c.if-e-b in
-    rw insert.ensures
-    (listing_more loop.invariant cut.ensures pre.2 look_up.ensures (lt_count (count_facts pre.0) if2.false) (facts_few pre.0)
-    (sym has.ensures ∙ if3.false) if4.false)
+pub returns : goal.returns
+returns c = adding_done (facts_few c.args.o.now.shape.shaped) (rw c.in_default.is at c.loop-left.invariant)

@@ -1,13 +1,16 @@
-use Prim.Native.Nat.{◌-◌}
-use Rattle.lines.specs.Parts.{lines_of}
-use Rattle.outline.specs.Sections.{sections}
+use Prim.Native.Nat.{ℕ}
+use mathlib.Core.List.{List}
+use Rattle.std.proofs.Common.{Bor}
+use Rattle.grammar.specs.Name.{names_in}
 use Rattle.outline.specs.Names.{fact, declared}
 use Rattle.rows.specs.Words.{fact_words}
-use Rattle.rows.proofs.FactList.{Listing}
+use Rattle.rows.specs.Answers.{sections_of}
+use Rattle.rows.proofs.FactList.{Adding}
+use Rattle.rows.proofs.Names.{names_left, bytes_left}
 use Rattle.rows.proofs.fact_set.Given as goal
 
-abbrev pub invariant-loop-h : goal.invariant-loop-h
-invariant-loop-h l = Listing fact_words (declared (sections (lines_of l.s)) fact) l.s l.a l.b l.i l.w
+abbrev pub invariant-loop-left : goal.invariant-loop-left
+invariant-loop-left l = Adding fact_words (declared (sections_of l.o) fact) (names_in l.list) (names_left (λ (x : Bor (List ℕ)). x.now) l.left) l.set
 
-abbrev pub decreases-loop-h : goal.decreases-loop-h
-decreases-loop-h l = l.b - l.i
+abbrev pub decreases-loop-left : goal.decreases-loop-left
+decreases-loop-left l = bytes_left (λ (x : Bor (List ℕ)). x.now) l.left

@@ -1,63 +1,30 @@
-use borrow.Author.Rules.{rules}
+use mathlib.Core.Path.{refl, sym}
+use mathlib.Core.List.{List}
+use Prim.Native.Nat.{ℕ}
 use native.Mathlib.Omega.{arith}
-use Rattle.rows.proofs.BodyList.{bodying_room, bodying_last, bodying_more, body_hyphen, body_parts, parts_length, room_at}
-use Rattle.rows.proofs.Counts.{count_tasks, among_is}
-use mathlib.Core.Path.{refl}
+use Rattle.std.proofs.Common.{Bor}
+use Rattle.rows.proofs.Counts.{count_tasks, number_or}
+use Rattle.rows.proofs.BodyList.{placing_first, placing_room, placing_more, placing_done}
+use Rattle.rows.proofs.Names.{left_first, left_more}
 use Rattle.rows.proofs.put_body.Goals as goal
 
-pub returns-then-is_hyphen : goal.returns-then-is_hyphen
-returns-then-is_hyphen c = body_hyphen _ _ _ _ _ c.is_hyphen.ensures c.if-is_hyphen.true
+pub loop-left-init : goal.loop-left-init
+loop-left-init c = placing_first _ _ _ _ (left_first (λ (x : Bor (List ℕ)). x.now) c.names_of-left.result c.names_of-left.ensures) (refl, tt)
 
-pub overflow_add-out : goal.overflow_add-out
-overflow_add-out c =
-    omega (
-      arith,
-      (room_at _ _ _ c.requires.3 (parts_length _ _ c.is_hyphen.ensures c.if-is_hyphen.false)
-          (bodying_room c.loop-h.invariant c.cut-e.ensures c.requires.2) c.loop-h.invariant.placing.same),
-    )
+pub bounds-out-size : goal.bounds-out-size
+bounds-out-size c =
+    let q = left_more (λ (x : Bor (List ℕ)). x.now) c.loop-left.left c.split_first.result.1 c.in-Some.names c.split_first.result.0.now c.in-Some.is
+    c.split_first.ensures.parts in
+    omega (arith, placing_room c.loop-left.invariant q)
 
-pub offset_bounds-out-at : goal.offset_bounds-out-at
-offset_bounds-out-at c =
-    let h = room_at _ _ _ c.requires.3 (parts_length _ _ c.is_hyphen.ensures c.if-is_hyphen.false)
-    (bodying_room c.loop-h.invariant c.cut-e.ensures c.requires.2) refl in search rules
+pub loop-left-preserved : goal.loop-left-preserved
+loop-left-preserved c =
+    let q = left_more (λ (x : Bor (List ℕ)). x.now) c.loop-left.left c.split_first.result.1 c.in-Some.names c.split_first.result.0.now c.in-Some.is
+    c.split_first.ensures.parts in
+    let t = c.number_of-task in
+    let k = number_or _ _ t.result t.ensures (sym (count_tasks c.args.o.now.shape.shaped)) in
+    rw (c.and-met.ensures, c.unwrap_or.ensures)
+    (placing_more c.loop-left.invariant q k (omega (arith, placing_room c.loop-left.invariant q)) _ t.result t.ensures)
 
-pub bounds-out-at : goal.bounds-out-at
-bounds-out-at c =
-    let pre = c.requires in
-    let is-hyphen = c.is_hyphen in
-    let if1 = c.if-is_hyphen in
-    let loop = c.loop-h in
-    let cut = c.cut-e in
-    (room_at _ _ _ pre.3 (parts_length _ _ is-hyphen.ensures if1.false) (bodying_room loop.invariant cut.ensures pre.2) loop.invariant.placing.same)
-
-pub overflow_add-n : goal.overflow_add-n
-overflow_add-n c =
-    omega (
-      arith,
-      (room_at _ _ _ c.requires.3 (parts_length _ _ c.is_hyphen.ensures c.if-is_hyphen.false)
-          (bodying_room c.loop-h.invariant c.cut-e.ensures c.requires.2) c.loop-h.invariant.placing.same),
-    )
-
-pub returns-then-e-b : goal.returns-then-e-b
-returns-then-e-b c =
-    let is-hyphen = c.is_hyphen in
-    let if1 = c.if-is_hyphen in
-    let loop = c.loop-h in
-    let cut = c.cut-e in
-    let pre = c.requires in
-    let look_up = c.look_up-k in
-    let both = c.both-ok in
-    let if2 = c.if-e-b in
-    body_parts _ _ is-hyphen.ensures if1.false
-    (bodying_last loop.invariant cut.ensures pre.2 _ _ look_up.ensures (among_is _ _ _ _ look_up.ensures (count_tasks pre.0)) both.ensures if2.true)
-
-pub loop-h-preserved : goal.loop-h-preserved
-loop-h-preserved c =
-    let loop = c.loop-h in
-    let cut = c.cut-e in
-    let pre = c.requires in
-    let look_up = c.look_up-k in
-    let both = c.both-ok in
-    let if2 = c.if-e-b in
-    bodying_more loop.invariant cut.ensures pre.2 _ _ look_up.ensures (among_is _ _ _ _ look_up.ensures (count_tasks pre.0))
-    both.ensures if2.false
+pub returns : goal.returns
+returns c = placing_done (rw c.in_default.is at c.loop-left.invariant) refl

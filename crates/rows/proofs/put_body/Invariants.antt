@@ -1,12 +1,15 @@
-use Prim.Native.Nat.{◌-◌}
-use Rattle.lines.specs.Parts.{lines_of}
-use Rattle.outline.specs.Sections.{sections}
+use Prim.Native.Nat.{ℕ}
+use mathlib.Core.List.{List}
+use Rattle.std.proofs.Common.{Bor}
+use Rattle.grammar.specs.Name.{names_in}
 use Rattle.outline.specs.Names.{task, declared}
-use Rattle.rows.proofs.BodyList.{Bodying}
+use Rattle.rows.specs.Answers.{sections_of}
+use Rattle.rows.proofs.BodyList.{Placing}
+use Rattle.rows.proofs.Names.{names_left, bytes_left}
 use Rattle.rows.proofs.put_body.Given as goal
 
-abbrev pub invariant-loop-h : goal.invariant-loop-h
-invariant-loop-h l = Bodying (declared (sections (lines_of l.s)) task) l.s l.a l.b l.at l.initial.out l.out l.ok l.n l.i
+abbrev pub invariant-loop-left : goal.invariant-loop-left
+invariant-loop-left l = Placing (declared (sections_of l.o) task) (names_in l.list) (names_left (λ (x : Bor (List ℕ)). x.now) l.left) l.out l.size l.met
 
-abbrev pub decreases-loop-h : goal.decreases-loop-h
-decreases-loop-h l = l.b - l.i
+abbrev pub decreases-loop-left : goal.decreases-loop-left
+decreases-loop-left l = bytes_left (λ (x : Bor (List ℕ)). x.now) l.left

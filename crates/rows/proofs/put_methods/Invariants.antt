@@ -1,13 +1,21 @@
-use Prim.Native.Nat.{◌-◌}
-use Rattle.lines.specs.Parts.{lines_of}
-use Rattle.lines.proofs.Lines.{On}
-use Rattle.outline.specs.Sections.{sections}
+use lib.ListN.{length}
+use Rattle.lines.specs.Bytes.{LF}
+use Rattle.lines.specs.Parts.{ended}
+use Rattle.outline.specs.Index.{bytes_of}
 use Rattle.outline.specs.Names.{job, task, declared}
-use Rattle.rows.proofs.MethodLines.{Methoding}
+use Rattle.rows.specs.Uses.{uses_tasks}
+use Rattle.rows.specs.Words.{method_words}
+use Rattle.rows.specs.Answers.{sections_of}
+use Rattle.rows.proofs.MethodLines.{Method, method_keeps}
+use Rattle.rows.proofs.Walk.{Walking}
 use Rattle.rows.proofs.put_methods.Given as goal
 
-abbrev pub invariant-loop-i : goal.invariant-loop-i
-invariant-loop-i l = On l.s l.h.methods_at l.i l.a × Methoding (declared (sections (lines_of l.s)) job) (declared (sections (lines_of l.s)) task) (sections (lines_of l.s)).methods l.at l.initial.out l.out l.ok l.i
+abbrev pub invariant-loop-line : goal.invariant-loop-line
+invariant-loop-line l =
+    let jobs = declared (sections_of l.o) job in
+    let tasks = declared (sections_of l.o) task in
+    Walking method_words (uses_tasks jobs tasks) (Method jobs tasks) (method_keeps jobs tasks) (bytes_of (sections_of l.o).methods)
+    (ended LF l.text) l.out l.at l.met
 
-abbrev pub decreases-loop-i : goal.decreases-loop-i
-decreases-loop-i l = l.h.methods - l.i
+abbrev pub decreases-loop-line : goal.decreases-loop-line
+decreases-loop-line l = length l.text

@@ -1,21 +1,32 @@
-use Rattle.lines.proofs.Lines.{on_is, on_more}
-use Rattle.rows.proofs.StepLines.{stepping_more, stepping_done}
-use Rattle.rows.proofs.Walks.{steps_count, step_walked, step_line_lem}
-use Rattle.rows.proofs.Counts.{lt_count, le_count}
+use mathlib.Core.Path.{refl, sym, ◌∙◌}
+use Prim.Native.Nat.{◌+◌, ◌≤◌}
+use native.Mathlib.Omega.{arith}
+use lib.ListN.{length, length-map}
+use Rattle.lines.specs.Parts.{Piece}
+use Rattle.rows.specs.Answers.{sections_of}
+use Rattle.rows.specs.Words.{step_words}
+use Rattle.rows.proofs.Counts.{asked_met}
+use Rattle.rows.proofs.StepLines.{step_whole}
+use Rattle.rows.proofs.Words.{has_put, kept_put}
+use Rattle.rows.proofs.Walk.{walking_first, walking_room, walking_done, walking_more}
 use Rattle.rows.proofs.put_steps.Goals as goal
 
-pub loop-i-preserved : goal.loop-i-preserved
-loop-i-preserved c =
-    let loop = c.loop-i in
-    let cut = c.cut-b in
-    let pre = c.requires in
-    let if1 = c.loop-i-test in
-    let put_step = c.put_step-met in
-    let both = c.both-ok in (
-      on_more loop.invariant.0 cut.ensures (step_walked pre.0 if1.true),
-      stepping_more _ _ _ loop.invariant.1 (lt_count (steps_count pre.0) if1.true)
-          (step_line_lem pre.0 _ if1.true (on_is loop.invariant.0 cut.ensures (step_walked pre.0 if1.true))) put_step.auto.out put_step.ensures both.ensures,
-    )
+pub loop-line-init : goal.loop-line-init
+loop-line-init c = walking_first _ _ _ _ _ _ _ c.args.o.now.shape.shaped.step_lines (refl, tt)
+
+pub loop-line-preserved : goal.loop-line-preserved
+loop-line-preserved c =
+    let u = c.loop-line.invariant in
+    let e = c.in-Some.ensures.lines in
+    let n = c.args.o.now.shape.shaped.steps ∙ sym (length-map (sections_of c.args.o.now).steps (λ (l : Piece). l.bytes)) in
+    let r : c.loop-line.at + step_words ≤ length c.args.out.now = walking_room _ _ _ _ u e n c.requires in
+    let h : c.loop-line.at ≤ length c.loop-line.out = omega arith in
+    rw c.and-met.ensures
+    (walking_more _ _ _ _ u e (kept_put c.loop-line.at c.loop-line.out c.put_step.new.out _ h)
+    (λ m. step_whole _ _ _ (has_put c.loop-line.at c.loop-line.out c.put_step.new.out _ h) (omega arith) (asked_met c.put_step.result c.put_step.ensures m))
+    _ c.put_step.result c.put_step.ensures)
 
 pub returns : goal.returns
-returns c = stepping_done c.loop-i.invariant.1 (le_count (steps_count c.requires.0) c.loop-i-test.false)
+returns c =
+    let d = walking_done _ _ _ _ c.loop-line.invariant c.in_default.ensures.lines in
+    (d.0, record { stands = d.1 })

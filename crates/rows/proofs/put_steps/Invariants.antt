@@ -1,13 +1,19 @@
-use Prim.Native.Nat.{◌-◌}
-use Rattle.lines.specs.Parts.{lines_of}
-use Rattle.lines.proofs.Lines.{On}
-use Rattle.outline.specs.Sections.{sections}
+use lib.ListN.{length}
+use Rattle.lines.specs.Bytes.{LF}
+use Rattle.lines.specs.Parts.{ended}
+use Rattle.outline.specs.Index.{bytes_of}
 use Rattle.outline.specs.Names.{fact, declared}
-use Rattle.rows.proofs.StepLines.{Stepping}
+use Rattle.rows.specs.Uses.{uses_facts}
+use Rattle.rows.specs.Words.{step_words}
+use Rattle.rows.specs.Answers.{sections_of}
+use Rattle.rows.proofs.StepLines.{Step, step_keeps}
+use Rattle.rows.proofs.Walk.{Walking}
 use Rattle.rows.proofs.put_steps.Given as goal
 
-abbrev pub invariant-loop-i : goal.invariant-loop-i
-invariant-loop-i l = On l.s l.h.steps_at l.i l.a × Stepping (declared (sections (lines_of l.s)) fact) (sections (lines_of l.s)).steps l.at l.initial.out l.out l.ok l.i
+abbrev pub invariant-loop-line : goal.invariant-loop-line
+invariant-loop-line l =
+    let facts = declared (sections_of l.o) fact in
+    Walking step_words (uses_facts facts) (Step facts) (step_keeps facts) (bytes_of (sections_of l.o).steps) (ended LF l.text) l.out l.at l.met
 
-abbrev pub decreases-loop-i : goal.decreases-loop-i
-decreases-loop-i l = l.h.steps - l.i
+abbrev pub decreases-loop-line : goal.decreases-loop-line
+decreases-loop-line l = length l.text

@@ -1,10 +1,6 @@
--- run_cases takes each line within the index and ends.
--- A turn begins past the line of the turn before, at most one byte past the index.
-use Rattle.std.proofs.Common.{◌+◌, ◌-◌, ◌≤◌, length}
+-- run_cases takes each line of the index and ends: less of it is left after each.
+use Rattle.std.proofs.Common.{length}
 use Rattle.stored.proofs.run_cases.Given as goal
 
-abbrev pub invariant-loop-at : goal.invariant-loop-at
-invariant-loop-at g l = l.at ≤ length l.index + 1
-
-abbrev pub decreases-loop-at : goal.decreases-loop-at
-decreases-loop-at g l = length l.index - l.at
+abbrev pub decreases-loop-left : goal.decreases-loop-left
+decreases-loop-left g l = length l.left

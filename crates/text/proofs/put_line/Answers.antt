@@ -1,16 +1,33 @@
-use Rattle.table.specs.Layout.{table_in}
-use Rattle.index.specs.Index.{source}
-use Rattle.text.proofs.Codes.{line_past, line_put}
+use mathlib.Core.Path.{refl, ◌∙◌}
+use Prim.Native.Nat.{◌-◌}
+use native.Mathlib.Omega.{arith}
+use lib.ListN.{length}
 use Rattle.places.specs.ClausePlace.{literals, place_at}
+use Rattle.shape.specs.Views.{source_of}
 use Rattle.cursor.specs.Cursor.{pos_of}
+use Rattle.text.proofs.Codes.{line_past, line_within, line_short, line_put}
 use Rattle.text.proofs.put_line.Goals as goal
 
-pub returns-then-not-clause_fits : goal.returns-then-not-clause_fits
-returns-then-not-clause_fits c =
-    line_past (literals (source (table_in c.args.ws.now)) (place_at (source (table_in c.args.ws.now)) (pos_of c.args.c))) c.literals-k.ensures
-    c.args.text.now c.args.at c.clause_fits.ensures c.if-not-clause_fits.true-raw
+pub put_clause-requires : goal.put_clause-requires
+put_clause-requires c =
+    omega (
+      arith,
+      c.requires.1,
+      line_within (literals (source_of c.args.e.now) (place_at (source_of c.args.e.now) (pos_of c.args.c)))
+          (c.as_slice-clause.ensures.0 ∙ c.literals.ensures) (length c.args.text.now - c.args.at) c.clause_fits.ensures c.if-clause_fits.true,
+    )
 
-pub returns : goal.returns
-returns c =
-    line_put (literals (source (table_in c.args.ws.now)) (place_at (source (table_in c.args.ws.now)) (pos_of c.args.c))) c.literals-k.ensures
-    c.args.text.now c.args.at c.clause_fits.ensures c.if-not-clause_fits.false-raw c.put_clause.ensures
+pub returns-then-clause_fits : goal.returns-then-clause_fits
+returns-then-clause_fits c = (
+  line_short (literals (source_of c.args.e.now) (place_at (source_of c.args.e.now) (pos_of c.args.c)))
+      (c.as_slice-clause.ensures.0 ∙ c.literals.ensures) (length c.args.text.now - c.args.at) c.clause_fits.ensures c.if-clause_fits.true,
+  line_put (literals (source_of c.args.e.now) (place_at (source_of c.args.e.now) (pos_of c.args.c)))
+      (c.as_slice-clause.ensures.0 ∙ c.literals.ensures) c.put_clause.ensures,
+)
+
+pub returns-else-clause_fits : goal.returns-else-clause_fits
+returns-else-clause_fits c = (
+  line_past (literals (source_of c.args.e.now) (place_at (source_of c.args.e.now) (pos_of c.args.c)))
+      (c.as_slice-clause.ensures.0 ∙ c.literals.ensures) (length c.args.text.now - c.args.at) c.clause_fits.ensures c.if-clause_fits.false,
+  refl,
+)

@@ -1,12 +1,11 @@
-use mathlib.Core.Path.{◌≡◌}
 use lib.ListN.{length}
-use Rattle.table.specs.Layout.{table_in}
-use Rattle.text.proofs.Writing.{Writing}
+use Rattle.shape.specs.Views.{table_of}
 use Rattle.text.specs.Lines.{lines_from}
+use Rattle.text.proofs.Writing.{Writing}
 use Rattle.text.proofs.put_lines.Given as goal
 
-abbrev pub invariant-loop-p : goal.invariant-loop-p
-invariant-loop-p l = Writing (table_in l.ws) l.initial.c l.start l.j l.initial.text l.c l.at l.line l.text × (length l.lits ≡ 136)
+abbrev pub invariant-loop-place : goal.invariant-loop-place
+invariant-loop-place l = Writing (table_of l.e) l.initial.cursor l.start l.j l.initial.text l.cursor l.lines.used l.lines.next l.text
 
-abbrev pub decreases-loop-p : goal.decreases-loop-p
-decreases-loop-p l = length (lines_from (table_in l.ws) l.c)
+abbrev pub decreases-loop-place : goal.decreases-loop-place
+decreases-loop-place l = length (lines_from (table_of l.e) l.cursor)

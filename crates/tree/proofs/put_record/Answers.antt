@@ -1,7 +1,8 @@
-use Rattle.tree.proofs.Loops.{put_five}
+use Rattle.tree.proofs.Loops.{put_none, put_five}
 use Rattle.tree.proofs.put_record.Goals as goal
 
-pub returns : goal.returns
-returns c =
-    put_five c.ranges.steps.fits c.ranges.jobs.fits c.if-out-k.false c.put_word-a.ensures c.put_word-b.ensures
-    c.put_word-c.ensures c.put_word-d.ensures c.put_word.ensures
+pub returns-then-k-out : goal.returns-then-k-out
+returns-then-k-out c = put_five c.ranges.steps.fits c.ranges.jobs.fits c.put_words.ensures
+
+pub returns-else-k-out : goal.returns-else-k-out
+returns-else-k-out c = put_none c.if-k-out.false

@@ -1,5 +1,5 @@
--- `writer::clause_size` meets its contract. The loop's invariant: n counts the bytes of the first i literals and of the line's end. The
--- measure is the literals left. Assumes nothing.
+-- `writer::clause_size` meets its contract: one literal more is counted.
+-- Assumes nothing.
 use native.Mathlib.Omega.{arith}
 use Rattle.writer.proofs.Literals.{literal_most}
 use Rattle.writer.proofs.Loops.{counted_more}
@@ -7,11 +7,10 @@ use Rattle.writer.proofs.clause_size.Goals as goal
 
 pub overflow_add-n : goal.overflow_add-n
 overflow_add-n c =
-    let u = c.loop-i in
-    let f = (c.shared_slice_known-in-loop-i-1.given u.i).fits in
-    omega (arith, u.invariant.small, c.loop-i-test.true, c.literal_size-n.ensures, literal_most _ f, c.requires)
+    let u = c.loop-code in
+    omega (arith, u.invariant.small, c.loop-code-test.true, c.literal_size-n.ensures, literal_most _ (c.type_inv.lits u.code-index).fits, c.requires)
 
-pub loop-i-preserved : goal.loop-i-preserved
-loop-i-preserved c =
-    let u = c.loop-i in
-    counted_more u.invariant c.loop-i-test.true (c.shared_slice_known-in-loop-i-1.given u.i).fits c.literal_size-n.ensures
+pub loop-code-preserved : goal.loop-code-preserved
+loop-code-preserved c =
+    let u = c.loop-code in
+    counted_more u.invariant c.loop-code-test.true (c.type_inv.lits u.code-index).fits c.literal_size-n.ensures

@@ -1,12 +1,7 @@
--- `writer::put_clause` meets its contract. The loop's invariant: the first i literals are written, and there is room for the line. The
--- measure is the literals left. Assumes nothing.
-use Prim.Native.Nat.{◌-◌}
-use lib.ListN.{length}
+-- `writer::put_clause` meets its contract. The loop's invariant: the literals so far are written, and there is room for the line.
+-- Assumes nothing.
 use Rattle.writer.proofs.Loops.{Laid}
 use Rattle.writer.proofs.put_clause.Given as goal
 
-abbrev pub invariant-loop-i : goal.invariant-loop-i
-invariant-loop-i l = Laid l.lits l.initial.out l.at l.out l.a l.i
-
-abbrev pub decreases-loop-i : goal.decreases-loop-i
-decreases-loop-i l = length l.lits - l.i
+abbrev pub invariant-loop-code : goal.invariant-loop-code
+invariant-loop-code l = Laid l.lits l.initial.out l.at l.out l.a l.code-index

@@ -1,5 +1,3 @@
--- `clause::slots::sets` meets its contract. A set's members are the facts.
--- Assumes nothing.
 use Rattle.clause.proofs.Facts.{has_is}
 use Rattle.clause.proofs.slots.sets.Goals as goal
 

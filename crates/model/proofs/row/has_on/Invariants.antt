@@ -1,7 +1,6 @@
 -- `model::row::has_on` meets its contract. One of the variables is true exactly if one from place i on is.
 -- Assumes nothing.
 use mathlib.Core.Path.{◌≡◌}
-use Prim.Native.Nat.{◌-◌}
 use Rattle.lists.specs.List.{any, from}
 use Rattle.planning.specs.Model.{value, truths_in}
 use Rattle.model.proofs.Values.{on_from}
@@ -9,6 +8,3 @@ use Rattle.model.proofs.row.has_on.Given as goal
 
 abbrev pub invariant-loop-i : goal.invariant-loop-i
 invariant-loop-i l = any (value (truths_in l.values)) (from l.v l.k) ≡ on_from (value (truths_in l.values)) l.v l.k l.i
-
-abbrev pub decreases-loop-i : goal.decreases-loop-i
-decreases-loop-i l = l.k - l.i

@@ -1,0 +1,10 @@
+use native.Mathlib.Omega.{arith}
+use Rattle.shape.proofs.Nodes.{few_node, jobs_is}
+use Rattle.shape.proofs.Structs.{in_node}
+use Rattle.shape.proofs.node.Node.jobs.Goals as goal
+
+pub node_word-requires : goal.node_word-requires
+node_word-requires c = (few_node (in_node c.args.self.now), omega arith)
+
+pub returns : goal.returns
+returns c = jobs_is (in_node c.args.self.now) c.node_word.ensures

@@ -1,4 +1,0 @@
-use Rattle.shape.proofs.node_len.Goals as goal
-
-pub returns-in-2 : goal.returns-in-2
-returns-in-2 c = rw c.in-2.is c.jobs_of.ensures.0
