@@ -1,5 +1,6 @@
 // Reads the solver's answer: questions 12 to 14, and the values. There is a cell for each variable: its value, or 2 where it has not
-// stood yet. Question 12 goes over the whole file first, so a number that question 14 does not take is only noted.
+// stood yet, and no Option: where all have stood the cells are the values, and are read and copied as such. Question 12 goes over the whole file
+// first, so a number that question 14 does not take is only noted.
 #![tactic(auto)]
 
 mod kind;
