@@ -9,20 +9,20 @@ ghost use Rattle.encoding.specs.Calls.{checking, building, tree_after, text_from
 ghost use Rattle.answer.specs.Calls.{taking, values_after, showing, listing_after, showing_answer, answer_listing_after};
 ghost use Rattle.curdfuture.specs.Numbers.{Crossed};
 
-use encoding::{Counts, Lines};
+use encoding::Lines;
 use nodes::Node;
 use unmet::Unmet;
 
-// The number that crosses of an outcome: 0 where there is a value, which is laid into what is lent, or the question's.
-fn cross<T: Copy>(outcome: Result<T, Unmet>, lent: &mut T) -> usize
+// The number that crosses of an outcome: 0 where there is a count, which is laid into what is lent, or the question's.
+fn cross(outcome: Result<usize, Unmet>, lent: &mut usize) -> usize
     ensures { MatchResult outcome (λ x. (lent.new ≡ x) × (result ≡ 0)) (λ q. (lent.new ≡ lent.old) × (result ≡ number_of q)) }
 {
     match outcome {
-        Ok(value) => {
-            *lent = value;
+        Ok(count) => {
+            *lent = count;
             0
         }
-        Err(unmet) => unmet.number(),
+        Err(question) => question.number(),
     }
 }
 
@@ -36,16 +36,15 @@ pub fn curdfuture_check(
     ensures { Crossed (checking file.now) (nodes.old ∷ variables.old ∷ clauses.old ∷ [])
         (nodes.new ∷ variables.new ∷ clauses.new ∷ []) result }
 {
-    let mut counts = Counts {
-        nodes: *nodes,
-        variables: *variables,
-        clauses: *clauses,
-    };
-    let question = cross(encoding::check(file), &mut counts);
-    *nodes = counts.nodes;
-    *variables = counts.variables;
-    *clauses = counts.clauses;
-    question
+    match encoding::check(file) {
+        Ok(counts) => {
+            *nodes = counts.nodes;
+            *variables = counts.variables;
+            *clauses = counts.clauses;
+            0
+        }
+        Err(unmet) => unmet.number(),
+    }
 }
 
 // Builds the tree, one record a node: how many nodes there are.
@@ -60,14 +59,14 @@ pub fn curdfuture_build(file: &[u8], tree: &mut [Node], nodes: &mut usize) -> us
 fn cross_lines(written: Result<Lines, Unmet>, used: &mut usize, next: &mut usize) -> usize
     ensures { Crossed (text_from written) (used.old ∷ next.old ∷ []) (used.new ∷ next.new ∷ []) result }
 {
-    let mut lines = Lines {
-        used: *used,
-        next: *next,
-    };
-    let question = cross(written, &mut lines);
-    *used = lines.used;
-    *next = lines.next;
-    question
+    match written {
+        Ok(lines) => {
+            *used = lines.used;
+            *next = lines.next;
+            0
+        }
+        Err(first) => first.number(),
+    }
 }
 
 // Writes text from a line on: the bytes used and the next line.
