@@ -55,7 +55,8 @@ Says None l = (w : SolverWord) → l ≡ says w → ⊥
 
 -- the word in these bytes
 abbrev pub word_in : List ℕ → Option Word
-word_in bs = cond (same_bytes bs SATISFIABLE) (Some Satisfiable) (cond (same_bytes bs UNSATISFIABLE) (Some Other) (cond (same_bytes bs UNKNOWN) (Some Other) None))
+word_in bs =
+    cond (same_bytes bs SATISFIABLE) (Some Satisfiable) (cond (same_bytes bs UNSATISFIABLE) (Some Other) (cond (same_bytes bs UNKNOWN) (Some Other) None))
 
 abbrev pub word_by : Kind → List ℕ → Option Word
 word_by Comment bs = None
