@@ -111,7 +111,7 @@ impl<'a> Encoded<'a> {
     }
 
     // How many clauses row (x, y) has, where there is such a row.
-    fn len_in(&self, r: usize, n: usize, g: usize, x: usize, y: usize) -> usize
+    pub fn len_in(&self, r: usize, n: usize, g: usize, x: usize, y: usize) -> usize
         requires { HasLetter (source_of self.now) r n g × (x < (group_at (source_of self.now) r n g).xs)
             × (y < (group_at (source_of self.now) r n g).ys) }
         ensures { result ≡ (group_at (source_of self.now) r n g).len x y }
