@@ -15,6 +15,7 @@ ghost use Rattle.shape.specs.Views.{table_of, source_of, flat};
 ghost use Rattle.clause.specs.Parts.{codes, lits_of, at_child as atChild};
 
 use super::codes::Codes;
+use super::lookup::{holds, rank_in};
 use shape::Node;
 use table::Task;
 
@@ -23,8 +24,7 @@ fn push_member(out: &mut Codes, v: usize, set: u64, i: usize)
     requires { (length out.old < 136) × (v ≤ 65536) }
     ensures { out.new ≡ out.old ++ codes (lit_if (contains (set ∷ []) i) (v + rank (members (set ∷ [])) i)) }
 {
-    let words = [set];
-    out.push_if(v + bitset::rank(&words, i), bitset::has(&words, i));
+    out.push_if(v + rank_in(set, i), holds(set, i));
 }
 
 // The variable of a task at a node; nothing where it has none there.

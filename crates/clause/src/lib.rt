@@ -3,6 +3,7 @@
 
 mod codes;
 mod letters;
+pub mod lookup;
 mod slots;
 
 ghost use Rattle.std.specs.Prelude.{◌≡◌, map, ◌<◌};
