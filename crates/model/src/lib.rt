@@ -47,7 +47,7 @@ fn is_satisfied(e: &Encoded, values: &[u8], lits: &mut Codes, c: Cursor) -> bool
     requires { Holds (table_of e.now) c }
     ensures { result ≡ clause_true (value (truths_in values.now)) (clause_at (table_of e.now) c) }
 {
-    clause::literals(lits, e, c.rule, c.node, c.group, c.x, c.y, c.i);
+    clause::fill_codes(lits, e, c.rule, c.node, c.group, c.x, c.y, c.i);
     has_true(values, lits.as_slice())
 }
 

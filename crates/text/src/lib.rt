@@ -25,7 +25,7 @@ fn put_line(e: &Encoded, lits: &mut Codes, text: &mut [u8], at: usize, c: Cursor
     requires { Holds (table_of e.now) c × (at ≤ length text.old) }
     ensures { PutLine (line_at (table_of e.now) c) at text.old text.new result }
 {
-    clause::literals(lits, e, c.rule, c.node, c.group, c.x, c.y, c.i);
+    clause::fill_codes(lits, e, c.rule, c.node, c.group, c.x, c.y, c.i);
     let clause = lits.as_slice();
     if writer::clause_fits(clause, text.len() - at) {
         Some(writer::put_clause(text, at, clause))

@@ -10,4 +10,4 @@ use Rattle.model.proofs.is_satisfied.Goals as goal
 pub returns : goal.returns
 returns c =
     c.has_true.ensures
-    ∙ codes_true (value (truths_in c.args.values.now)) (clause_at (table_of c.args.e.now) c.args.c) (c.as_slice.ensures.0 ∙ c.literals.ensures)
+    ∙ codes_true (value (truths_in c.args.values.now)) (clause_at (table_of c.args.e.now) c.args.c) (c.as_slice.ensures.0 ∙ c.fill_codes.ensures)

@@ -14,20 +14,20 @@ put_clause-requires c =
       arith,
       c.requires.1,
       line_within (literals (source_of c.args.e.now) (place_at (source_of c.args.e.now) (pos_of c.args.c)))
-          (c.as_slice-clause.ensures.0 ∙ c.literals.ensures) (length c.args.text.now - c.args.at) c.clause_fits.ensures c.if-clause_fits.true,
+          (c.as_slice-clause.ensures.0 ∙ c.fill_codes.ensures) (length c.args.text.now - c.args.at) c.clause_fits.ensures c.if-clause_fits.true,
     )
 
 pub returns-then-clause_fits : goal.returns-then-clause_fits
 returns-then-clause_fits c = (
   line_short (literals (source_of c.args.e.now) (place_at (source_of c.args.e.now) (pos_of c.args.c)))
-      (c.as_slice-clause.ensures.0 ∙ c.literals.ensures) (length c.args.text.now - c.args.at) c.clause_fits.ensures c.if-clause_fits.true,
+      (c.as_slice-clause.ensures.0 ∙ c.fill_codes.ensures) (length c.args.text.now - c.args.at) c.clause_fits.ensures c.if-clause_fits.true,
   line_put (literals (source_of c.args.e.now) (place_at (source_of c.args.e.now) (pos_of c.args.c)))
-      (c.as_slice-clause.ensures.0 ∙ c.literals.ensures) c.put_clause.ensures,
+      (c.as_slice-clause.ensures.0 ∙ c.fill_codes.ensures) c.put_clause.ensures,
 )
 
 pub returns-else-clause_fits : goal.returns-else-clause_fits
 returns-else-clause_fits c = (
   line_past (literals (source_of c.args.e.now) (place_at (source_of c.args.e.now) (pos_of c.args.c)))
-      (c.as_slice-clause.ensures.0 ∙ c.literals.ensures) (length c.args.text.now - c.args.at) c.clause_fits.ensures c.if-clause_fits.false,
+      (c.as_slice-clause.ensures.0 ∙ c.fill_codes.ensures) (length c.args.text.now - c.args.at) c.clause_fits.ensures c.if-clause_fits.false,
   refl,
 )

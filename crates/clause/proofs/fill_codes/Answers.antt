@@ -6,7 +6,7 @@ use lib.ListN.{length}
 use Rattle.shape.specs.Views.{table_of}
 use Rattle.clause.proofs.Pushed.{same_lits, alone}
 use Rattle.clause.proofs.Cases.{root_there, there, letter_there, row_there, node_lits, start_fact, start_lits}
-use Rattle.clause.proofs.literals.Goals as goal
+use Rattle.clause.proofs.fill_codes.Goals as goal
 
 pub node-requires : goal.node-requires
 node-requires c = (root_there c.args.e.now.indexed).there
