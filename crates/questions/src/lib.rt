@@ -1,7 +1,7 @@
 // The questions that several calls above put to a table file, 2 to 9, each asked here alone; and the table of a file that is accepted.
 #![tactic(auto)]
 
-ghost use Rattle.std.specs.Prelude.{◌≡◌, ◌++◌, ◌≤◌, MatchResult, drop, length};
+ghost use Rattle.std.specs.Prelude.{◌≡◌, ◌++◌, ◌*◌, ◌≤◌, MatchResult, drop, length};
 ghost use Rattle.unmet.specs.Number.{number_of};
 ghost use Rattle.table.specs.Layout.{table_in};
 ghost use Rattle.nodes.specs.Tree.{tree_of, met10};
@@ -44,10 +44,8 @@ pub struct Accepted<'a> {
 }
 
 // Questions 2 to 9. The table's own records are put into words that are lent; what these hold afterwards is left free.
-pub fn accept<'a>(
-    file: &'a [u8],
-    records: &'a mut [u64; RECORD_WORDS],
-) -> Result<Accepted<'a>, Unmet>
+pub fn accept<'a>(file: &'a [u8], records: &'a mut [u64]) -> Result<Accepted<'a>, Unmet>
+    requires { 5 * 1024 ≤ length records.old }
     ensures { MatchResult result (λ a. a.file.now ≡ file.now) (λ q. accepting file.now ≡ unmet (number_of q)) }
 {
     let table = table::read(file)?;
