@@ -2,6 +2,7 @@
 #![tactic(auto)]
 
 ghost use Rattle.std.specs.Prelude.{◌≡◌, ◌++◌, ◌*◌, ◌≤◌, MatchResult, drop, length};
+ghost use Rattle.lists.specs.Written.{Wrote};
 ghost use Rattle.unmet.specs.Number.{number_of};
 ghost use Rattle.table.specs.Layout.{table_in};
 ghost use Rattle.nodes.specs.Tree.{tree_of, met10};
@@ -89,12 +90,20 @@ impl Accepted<'_> {
         3 + 15 * self.counts.nodes + self.counts.slots + self.counts.variables
     }
 
+    // Writes its index, from the first place of these words on, and returns how many words that were; those behind it stay.
+    pub fn put_index(&self, words: &mut [u64]) -> usize
+        requires { length (index_of (table_in self.now.table)) ≤ length words.old }
+        ensures { Wrote words.old 0 (index_of (table_in self.now.table)) words.new result }
+    {
+        indexing::fill(&self.table, self.records, self.counts, words)
+    }
+
     // The table with its index, which is put into words that are lent; what these hold afterwards is left free.
     pub fn encoded<'b>(&'b self, words: &'b mut [u64]) -> Encoded<'b>
         requires { length (index_of (table_in self.now.table)) ≤ length words.old }
         ensures { result.table.now ≡ self.now.table }
     {
-        let n = indexing::fill(&self.table, self.records, self.counts, words);
+        let n = self.put_index(words);
         Encoded {
             table: &self.table,
             index: &words[..n],
