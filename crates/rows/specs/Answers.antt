@@ -10,7 +10,7 @@ use Rattle.grammar.specs.Line.{name_in, body_in, start_in, depth_in}
 use Rattle.outline.specs.Sections.{Sections, sections, start_line, root_line}
 use Rattle.outline.specs.Names.{number_of, fact, job, declared}
 use Rattle.outline.specs.declared.Outline.{Outline}
-use Rattle.rows.specs.Uses.{uses_facts, facts_of}
+use Rattle.rows.specs.Uses.{are_facts, uses_facts, facts_of}
 use Rattle.rows.specs.Row.{read_step}
 use Rattle.rows.specs.Words.{fact_words, step_words, method_words, step_at}
 use Rattle.rows.specs.declared.Ends.{Ends}
@@ -51,8 +51,15 @@ pub record MethodStands (jobs tasks : List Name) (line : List ℕ) (k : ℕ) (o 
 pub record MethodsStand (jobs tasks : List Name) (lines : List (List ℕ)) (o : List ℕ) : Type 0 where
   pub stands : (i : ℕ) → i < length lines → MethodStands jobs tasks (get_or lines i []) (method_words * i) o
 
--- the I line and the R line
+-- the I line and the R line, where they meet question 7
 pub record EndsMean (p : Sections) (e : Ends) : Type 0 where
   pub start : FactsMean fact_words (declared p fact) (start_in (start_line p)) e.start
+  pub root : e.root ≡ number_of (declared p job) (name_in (root_line p))
+  pub depth : e.depth ≡ depth_in (root_line p)
+
+-- and whether or not they do. Left free: the words of the start, where its list does not meet question 7
+pub record EndsStand (p : Sections) (e : Ends) : Type 0 where
+  pub set : are_facts (declared p fact) (start_in (start_line p)) ≡ true → members e.start ≡ facts_of (declared p fact) (start_in (start_line p))
+  pub wide : length e.start ≡ fact_words
   pub root : e.root ≡ number_of (declared p job) (name_in (root_line p))
   pub depth : e.depth ≡ depth_in (root_line p)

@@ -15,7 +15,7 @@ ghost use Rattle.outline.specs.Names.{among, number_of, fact, job, task, declare
 ghost use Rattle.outline.specs.Outlined.{kind_of};
 ghost use Rattle.rows.specs.Uses.{are_facts, uses_facts, uses_tasks};
 ghost use Rattle.rows.specs.Words.{fact_words, step_words, method_words};
-ghost use Rattle.rows.specs.Answers.{sections_of, Asked, FactsMean, StepStands, StepsStand, BodyStands, MethodStands, MethodsStand, EndsMean};
+ghost use Rattle.rows.specs.Answers.{sections_of, Asked, FactsMean, StepStands, StepsStand, BodyStands, MethodStands, MethodsStand, EndsMean, EndsStand};
 
 use grammar::{count_names, field_at, is_hyphen};
 use lines::{next_line, split_first};
@@ -166,12 +166,19 @@ pub struct Ends {
     pub depth: usize,
 }
 
-pub fn read_ends(o: &Outline) -> Result<Ends, Unmet>
+// For a root job that is not declared, the count of jobs. Each stands whatever the others say.
+pub fn read_ends(o: &Outline) -> (Ends, Result<(), Unmet>)
     ensures { let p = sections_of o.now in
-        Asked (are_facts (declared p fact) (start_in (start_line p)) && among (declared p job) (name_in (root_line p))) (EndsMean p) result }
+        Asked (are_facts (declared p fact) (start_in (start_line p)) && among (declared p job) (name_in (root_line p))) (λ _. EndsMean p result.0) result.1
+        × EndsStand p result.0 }
 {
-    let start = fact_set(o, field_at(o.shape.start, 1))?;
-    let root = number_of(o, Kind::Job, field_at(o.shape.root, 1))?;
+    let start = fact_set(o, field_at(o.shape.start, 1));
+    let root = number_of(o, Kind::Job, field_at(o.shape.root, 1));
     let depth = digit_of(field_at(o.shape.root, 2));
-    Ok(Ends { start, root, depth })
+    let ends = Ends {
+        start: start.unwrap_or([0; FACT_WORDS]),
+        root: root.unwrap_or(o.shape.jobs),
+        depth,
+    };
+    (ends, start.and(root).and(Ok(())))
 }

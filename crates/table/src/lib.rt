@@ -80,7 +80,8 @@ fn words_of(o: &Outline) -> Result<Words, Unmet>
     let (front, rest) = words.split_at_mut(STEPS_AT);
     let (steps, rest) = rest.split_at_mut(METHODS_AT - STEPS_AT);
     let (methods, names) = rest.split_at_mut(PARTS_AT - METHODS_AT);
-    let ends = read_ends(o)?;
+    let (ends, met) = read_ends(o);
+    met?;
     put_front(o, &ends, front);
     put_steps(o, steps)?;
     put_methods(o, methods)?;

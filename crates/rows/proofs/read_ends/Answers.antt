@@ -1,23 +1,18 @@
-use Rattle.std.proofs.lemmas.Result.{err_from_is_err_and}
-use Rattle.rows.proofs.Counts.{asked_err}
-use Rattle.rows.proofs.EndLines.{start_out, root_out, ends_mean}
+use mathlib.Core.Path.{refl, sym, ◌∙◌}
+use Rattle.rows.proofs.Counts.{count_jobs, number_or}
+use Rattle.rows.proofs.EndLines.{set_or, wide_or, ends_stand, ends_asked}
 use Rattle.rows.proofs.read_ends.Goals as goal
-
-pub returns-in_err-start : goal.returns-in_err-start
-returns-in_err-start c =
-    let p = err_from_is_err_and c.from_residual.result c.from_residual.ensures.1 in
-    let e = c.in_err-start.ensures in
-    asked_err _ _ p.1 p.2 (start_out _ _ _ c.args.o.now.shape.shaped.start c.field_at.ensures e.0, e.1)
-
-pub returns-in_err-root : goal.returns-in_err-root
-returns-in_err-root c =
-    let p = err_from_is_err_and c.from_residual-in_err-root.result c.from_residual-in_err-root.ensures.1 in
-    let n = c.in_err-root.ensures in
-    asked_err _ _ p.1 p.2 (root_out _ _ _ c.args.o.now.shape.shaped.root c.field_at-2.ensures n.0, n.1)
 
 pub returns : goal.returns
 returns c =
-    let n = c.in_ok-root.ensures in
-    ends_mean _ _ _ _ _ _ c.in_ok-start.start c.in_ok-root.root _ c.args.o.now.shape.shaped.start c.args.o.now.shape.shaped.root
-    c.field_at.ensures c.field_at-2.ensures c.field_at-3.ensures
-    c.in_ok-start.ensures n c.digit_of-depth.ensures
+    let s = c.args.o.now.shape.shaped in
+    let f = c.fact_set-start.ensures in
+    let j = c.number_of-root.ensures in
+    let stand =
+    ends_stand _ _ _ _ _ _ c.unwrap_or.result c.unwrap_or-2.result _ s.start s.root c.field_at.ensures c.field_at-2.ensures c.field_at-3.ensures
+    (rw c.unwrap_or.ensures (set_or _ _ _ c.fact_set-start.result f)) (rw c.unwrap_or.ensures (wide_or _ _ _ c.fact_set-start.result f refl))
+    (c.unwrap_or-2.ensures ∙ number_or _ _ c.number_of-root.result j (sym (count_jobs s))) c.digit_of-depth.ensures in (
+      rw (c.and-2.ensures, c.and.ensures)
+          (ends_asked _ _ _ _ _ _ _ c.fact_set-start.result c.number_of-root.result _ s.start s.root c.field_at.ensures c.field_at-2.ensures f j stand),
+      stand,
+    )

@@ -4,10 +4,10 @@ use Rattle.rows.proofs.Counts.{asked_err}
 use Rattle.table.proofs.Whole.{ends_out, steps_out, methods_out, seven_met, table_read, names_read}
 use Rattle.table.proofs.words_of.Goals as goal
 
-pub returns-in_err-ends : goal.returns-in_err-ends
-returns-in_err-ends c =
+pub returns-in_err-met : goal.returns-in_err-met
+returns-in_err-met c =
     let p = err_from_is_err_and c.from_residual.result c.from_residual.ensures.1 in
-    let e = c.in_err-ends.ensures in
+    let e = rw c.in_err-met.was at c.read_ends-met.ensures.0 in
     asked_err _ _ p.1 p.2 (ends_out _ e.0, e.1)
 
 pub returns-in_err-put_steps : goal.returns-in_err-put_steps
@@ -25,7 +25,7 @@ returns-in_err-put_methods c =
 pub returns : goal.returns
 returns c =
     let s = c.args.o.now.shape in
-    let e = c.in_ok-ends.ensures in
+    let e = rw c.in_ok-met.was at c.read_ends-met.ensures.0 in
     let a = c.in_ok-put_steps.ensures in
     let b = c.in_ok-put_methods.ensures in (
       seven_met _ a.0.0 b.0.0 e.0,
