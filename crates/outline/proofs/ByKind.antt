@@ -13,7 +13,7 @@ use Rattle.grammar.specs.Name.{Name}
 use Rattle.lines.specs.Parts.{Piece, no_line, lines_of}
 use Rattle.outline.proofs.Names.{number_small}
 use Rattle.outline.proofs.Sections.{parts_lines}
-use Rattle.outline.specs.Index.{number_in, most_in, Shaped, Held, Within, all_shown, no_span}
+use Rattle.outline.specs.Index.{number_in, most_in, Shaped, Held, Indexed, Within, all_shown, no_span}
 use Rattle.outline.specs.Names.{Kind, fact, step, job, task, names_of, among, number_of, all_new, declared, all_declared}
 use Rattle.outline.specs.Questions.{met6, most_names}
 use Rattle.outline.specs.Sections.{Sections, sections}
@@ -67,19 +67,23 @@ module _ (s : List ℕ) where
   lines_all : lines_of s ≡ (p.facts ++ (p.steps ++ p.jobs)) ++ (p.methods ++ p.ends)
   lines_all = lines_tasks ∙ sym (append_assoc p.facts (p.steps ++ p.jobs) (p.methods ++ p.ends))
 
-  module _ {f st j m : ℕ} {ss ms i r : List ℕ} (u : Shaped s f st j m ss ms i r) where
-    pub declared_few : f + st + j ≤ length (lines_of s)
-    declared_few =
+  module _ {f st j : ℕ} (ef : f ≡ length p.facts) (es : st ≡ length p.steps) (ej : j ≡ length p.jobs) where
+    names_lines : f + st + j ≤ length (lines_of s)
+    names_lines =
         omega (
           arith,
-          u.facts,
-          u.steps,
-          u.jobs,
+          ef,
+          es,
+          ej,
           ap length lines_all,
           length-append (p.facts ++ (p.steps ++ p.jobs)) (p.methods ++ p.ends),
           length-append p.facts (p.steps ++ p.jobs),
           length-append p.steps p.jobs,
         )
+
+  module _ {f st j m : ℕ} {ss ms i r : List ℕ} (u : Shaped s f st j m ss ms i r) where
+    pub declared_few : f + st + j ≤ length (lines_of s)
+    declared_few = names_lines u.facts u.steps u.jobs
 
     pub names_few : f + st + j ≤ most_names
     names_few = omega (arith, u.few_facts, u.few_steps, u.few_jobs)
@@ -96,35 +100,46 @@ module _ (s : List ℕ) where
     kind_few task =
         omega (arith, length-append (names_of p.steps) (names_of p.jobs), count_names p.steps, count_names p.jobs, u.steps, u.jobs, u.few_steps, u.few_jobs)
 
-    module _ (ps : List Span) (h : Held s ps (f + st + j)) (w : f + st + j ≤ length ps) where
-      pub fact_names : all_shown s (take f ps) ≡ declared p fact
-      unfolding declared
-      fact_names = part s ps h w declared_few f 0 [] p.facts (p.steps ++ (p.jobs ++ (p.methods ++ p.ends))) lines_facts refl u.facts (omega arith)
+    -- the spans of all names, of a file that has a shape
+    pub indexed : {ps : List Span} → Held s ps (f + st + j) → Indexed s f st j ps
+    indexed h = record { facts = u.facts; steps = u.steps; jobs = u.jobs; few = names_few; held = h }
 
-      pub step_names : all_shown s (take (f + st - f) (drop f ps)) ≡ declared p step
-      unfolding declared
-      step_names = part s ps h w declared_few (f + st - f) f p.facts p.steps (p.jobs ++ (p.methods ++ p.ends)) lines_facts u.facts
-          (omega (arith, u.steps)) (omega arith)
+  -- whether or not the file has a shape
+  module _ {f st j : ℕ} {ps : List Span} (u : Indexed s f st j ps) (w : f + st + j ≤ length ps) where
+    few : f + st + j ≤ length (lines_of s)
+    few = names_lines u.facts u.steps u.jobs
 
-      pub job_names : all_shown s (take (f + st + j - (f + st)) (drop (f + st) ps)) ≡ declared p job
-      unfolding declared
-      job_names =
-          part s ps h w declared_few (f + st + j - (f + st)) (f + st) (p.facts ++ p.steps) p.jobs (p.methods ++ p.ends) lines_jobs
-          (omega (arith, u.facts, u.steps, length-append p.facts p.steps)) (omega (arith, u.jobs)) (omega arith)
+    pub names_within : (k a : ℕ) → a + k ≤ f + st + j → Within s (take k (drop a ps))
+    names_within = within_part s ps u.held w few
 
-      pub task_names : all_shown s (take (f + st + j - f) (drop f ps)) ≡ declared p task
-      unfolding declared
-      task_names =
-          part s ps h w declared_few (f + st + j - f) f p.facts (p.steps ++ p.jobs) (p.methods ++ p.ends) lines_tasks u.facts
-          (omega (arith, u.steps, u.jobs, length-append p.steps p.jobs)) (omega arith) ∙ names_append p.steps p.jobs
+    pub fact_names : all_shown s (take f ps) ≡ declared p fact
+    unfolding declared
+    fact_names = part s ps u.held w few f 0 [] p.facts (p.steps ++ (p.jobs ++ (p.methods ++ p.ends))) lines_facts refl u.facts (omega arith)
 
-      -- question 6
-      pub sixth : all_new (all_shown s (take (f + st + j) ps)) ≡ met6 p
-      unfolding met6 all_declared declared
-      sixth =
-          ap all_new (part s ps h w declared_few (f + st + j) 0 [] (p.facts ++ (p.steps ++ p.jobs)) (p.methods ++ p.ends) lines_all refl
-          (omega (arith, u.facts, u.steps, u.jobs, length-append p.facts (p.steps ++ p.jobs), length-append p.steps p.jobs)) (omega arith)
-          ∙ names_append p.facts (p.steps ++ p.jobs) ∙ ap (λ (l : List Name). names_of p.facts ++ l) (names_append p.steps p.jobs))
+    pub step_names : all_shown s (take (f + st - f) (drop f ps)) ≡ declared p step
+    unfolding declared
+    step_names = part s ps u.held w few (f + st - f) f p.facts p.steps (p.jobs ++ (p.methods ++ p.ends)) lines_facts u.facts
+        (omega (arith, u.steps)) (omega arith)
+
+    pub job_names : all_shown s (take (f + st + j - (f + st)) (drop (f + st) ps)) ≡ declared p job
+    unfolding declared
+    job_names =
+        part s ps u.held w few (f + st + j - (f + st)) (f + st) (p.facts ++ p.steps) p.jobs (p.methods ++ p.ends) lines_jobs
+        (omega (arith, u.facts, u.steps, length-append p.facts p.steps)) (omega (arith, u.jobs)) (omega arith)
+
+    pub task_names : all_shown s (take (f + st + j - f) (drop f ps)) ≡ declared p task
+    unfolding declared
+    task_names =
+        part s ps u.held w few (f + st + j - f) f p.facts (p.steps ++ p.jobs) (p.methods ++ p.ends) lines_tasks u.facts
+        (omega (arith, u.steps, u.jobs, length-append p.steps p.jobs)) (omega arith) ∙ names_append p.steps p.jobs
+
+    -- question 6
+    pub sixth : all_new (all_shown s (take (f + st + j) ps)) ≡ met6 p
+    unfolding met6 all_declared declared
+    sixth =
+        ap all_new (part s ps u.held w few (f + st + j) 0 [] (p.facts ++ (p.steps ++ p.jobs)) (p.methods ++ p.ends) lines_all refl
+        (omega (arith, u.facts, u.steps, u.jobs, length-append p.facts (p.steps ++ p.jobs), length-append p.steps p.jobs)) (omega arith)
+        ∙ names_append p.facts (p.steps ++ p.jobs) ∙ ap (λ (l : List Name). names_of p.facts ++ l) (names_append p.steps p.jobs))
 
 -- the same shape, of the file by another name
 pub shape_at : {s t : List ℕ} {f st j m : ℕ} {ss ms i r : List ℕ} → s ≡ t → Shaped s f st j m ss ms i r → Shaped t f st j m ss ms i r

@@ -12,7 +12,7 @@ use Rattle.grammar.specs.Name.{Name}
 use Rattle.outline.specs.Sections.{sections, start_line, root_line}
 use Rattle.outline.specs.Names.{among, number_of, Kind, fact, step, job, task}
 use Rattle.outline.specs.Part.{part_of}
-use Rattle.outline.specs.Questions.{short, met4}
+use Rattle.outline.specs.Questions.{most_names, short, met4}
 use Rattle.outline.specs.declared.Span.{Span}
 
 -- the number of the name n among ns, where it is one of them
@@ -83,3 +83,11 @@ pub record Entry (s : List ℕ) (l : Piece) (p : Span) : Type 0 where
 -- the first k spans are those of the names of the first k lines. Left free: those past k
 pub record Held (s : List ℕ) (ps : List Span) (k : ℕ) : Type 0 where
   pub at : (i : ℕ) → i < k → Entry s (get_or (lines_of s) i no_line) (get_or ps i no_span)
+
+-- the names of f facts, st steps and j jobs are all held, and there is room for them
+pub record Indexed (s : List ℕ) (f st j : ℕ) (ps : List Span) : Type 0 where
+  pub facts : f ≡ length (sections (lines_of s)).facts
+  pub steps : st ≡ length (sections (lines_of s)).steps
+  pub jobs : j ≡ length (sections (lines_of s)).jobs
+  pub few : f + st + j ≤ most_names
+  pub held : Held s ps (f + st + j)

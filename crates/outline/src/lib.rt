@@ -2,7 +2,7 @@
 // Inside the reader, as crate `grammar` is.
 #![tactic(auto)]
 
-ghost use Rattle.std.specs.Prelude.{◌≡◌, [], ◌∷◌, ◌+◌, ◌≤◌, ◌<◌, ◌^◌, length, is_some, IfOk, IfSome};
+ghost use Rattle.std.specs.Prelude.{◌≡◌, List, ℕ, [], ◌∷◌, ◌+◌, ◌≤◌, ◌<◌, ◌^◌, length, is_some, IfOk, IfSome};
 ghost use Rattle.lists.specs.List.{all};
 ghost use Rattle.lists.specs.Question.{first_unmet};
 ghost use Rattle.lines.specs.Bytes.{LF, same_bytes};
@@ -12,7 +12,7 @@ ghost use Rattle.outline.specs.Part.{part_of};
 ghost use Rattle.outline.specs.Sections.{sections, is_end};
 ghost use Rattle.outline.specs.Names.{all_new, declared};
 ghost use Rattle.outline.specs.Questions.{most_names, within_counts, short};
-ghost use Rattle.outline.specs.Index.{number_in, most_in, Runs, Shaped, Held, Within, part_in, shown, all_shown};
+ghost use Rattle.outline.specs.Index.{number_in, most_in, Runs, Shaped, Held, Indexed, Within, part_in, shown, all_shown};
 ghost use Rattle.outline.specs.Outlined.{kind_of, questions2to5, questions2to6};
 
 use grammar::{are_lines, count_names, field_at, fits_and_ends, line_begins};
@@ -227,6 +227,45 @@ pub enum Kind {
     Task,
 }
 
+// The names of a kind, of those that a file declares: they stand side by side.
+fn of_kind(
+    names: &[Span; MOST_NAMES],
+    facts: usize,
+    steps: usize,
+    jobs: usize,
+    kind: Kind,
+) -> &[Span]
+    requires { facts + steps + jobs ≤ most_names }
+    ensures within { (s : List ℕ) → Indexed s facts steps jobs names.now → Within s result.now }
+    ensures names { (s : List ℕ) → Indexed s facts steps jobs names.now → all_shown s result.now ≡ declared (sections (lines_of s)) (kind_of kind) }
+{
+    let first_job = facts + steps;
+    let end = first_job + jobs;
+    match kind {
+        Kind::Fact => &names[..facts],
+        Kind::Step => &names[facts..first_job],
+        Kind::Job => &names[first_job..end],
+        Kind::Task => &names[facts..end],
+    }
+}
+
+// The number of the name among those declared in the kind wanted, whether or not the file has an outline: of its F, S and T lines the counts
+// are asked, and where their names stand.
+pub fn look_up(
+    file: &[u8],
+    names: &[Span; MOST_NAMES],
+    facts: usize,
+    steps: usize,
+    jobs: usize,
+    kind: Kind,
+    name: &[u8],
+) -> Option<usize>
+    requires { Indexed file.now facts steps jobs names.now }
+    ensures { result ≡ number_in (declared (sections (lines_of file.now)) (kind_of kind)) name.now }
+{
+    find(file, of_kind(names, facts, steps, jobs, kind), name)
+}
+
 // A file that meets questions 2 to 6: its sections, and where the names stand that it declares.
 #[derive(Clone, Copy)]
 pub struct Outline<'a> {
@@ -236,28 +275,21 @@ pub struct Outline<'a> {
 }
 
 impl Outline<'_> {
-    // The names of a kind.
-    fn of_kind(&self, kind: Kind) -> &[Span]
-        ensures within { Within self.now.shape.file.now result.now }
-        ensures names { all_shown self.now.shape.file.now result.now ≡ declared (sections (lines_of self.now.shape.file.now)) (kind_of kind) }
-    {
-        let tasks = self.shape.facts;
-        let jobs = tasks + self.shape.steps.count;
-        let end = jobs + self.shape.jobs;
-        match kind {
-            Kind::Fact => &self.names[..tasks],
-            Kind::Step => &self.names[tasks..jobs],
-            Kind::Job => &self.names[jobs..end],
-            Kind::Task => &self.names[tasks..end],
-        }
-    }
-
     // The number of the name among those declared in the kind wanted.
     pub fn look_up(&self, kind: Kind, name: &[u8]) -> Option<usize>
         ensures number { result ≡ number_in (declared (sections (lines_of self.now.shape.file.now)) (kind_of kind)) name.now }
         ensures small { IfSome result (λ k. k < most_in (kind_of kind)) }
     {
-        find(self.shape.file, self.of_kind(kind), name)
+        let s = &self.shape;
+        look_up(
+            s.file,
+            &self.names,
+            s.facts,
+            s.steps.count,
+            s.jobs,
+            kind,
+            name,
+        )
     }
 }
 

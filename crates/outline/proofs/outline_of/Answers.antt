@@ -1,5 +1,5 @@
 use Rattle.std.proofs.Common.{◌∙◌, sym, arith, rules, true, false}
-use Rattle.outline.proofs.ByKind.{shape_at, declared_few, names_few, within_part, sixth}
+use Rattle.outline.proofs.ByKind.{shape_at, declared_few, names_few, indexed, within_part, sixth}
 use Rattle.outline.proofs.Questions.{refused, asked6}
 use Rattle.outline.proofs.outline_of.Goals as goal
 
@@ -22,11 +22,11 @@ returns-then-not-are_new-clause-question c =
     let u = shape_at c.in_ok-shape.ensures.of c.in_ok-shape.shape.shaped in
     let few = names_few c.args.file.now u in
     asked6 c.args.file.now c.in_ok-shape.ensures.question false
-    (sym c.if-not-are_new.true ∙ c.are_new.ensures ∙ sixth c.args.file.now u c.declare-names.result c.declare-names.ensures (omega arith))
+    (sym c.if-not-are_new.true ∙ c.are_new.ensures ∙ sixth c.args.file.now (indexed c.args.file.now u c.declare-names.ensures) (omega arith))
 
 pub returns-clause-question : goal.returns-clause-question
 returns-clause-question c =
     let u = shape_at c.in_ok-shape.ensures.of c.in_ok-shape.shape.shaped in
     let few = names_few c.args.file.now u in
     asked6 c.args.file.now c.in_ok-shape.ensures.question true
-    (sym c.if-not-are_new.false ∙ c.are_new.ensures ∙ sixth c.args.file.now u c.declare-names.result c.declare-names.ensures (omega arith))
+    (sym c.if-not-are_new.false ∙ c.are_new.ensures ∙ sixth c.args.file.now (indexed c.args.file.now u c.declare-names.ensures) (omega arith))
