@@ -3,4 +3,5 @@ pub mod Computed
 pub mod Bytes
 pub mod Names
 pub mod Lines
+pub mod Places
 pub mod Files

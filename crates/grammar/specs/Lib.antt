@@ -7,5 +7,5 @@ pub mod Name
 pub mod Line
 -- the questions put to a whole file
 pub mod File
--- inside the reader: the forms of field as the code names them
+-- inside the reader: where a field stands, and the forms of field as the code names them
 pub mod Field

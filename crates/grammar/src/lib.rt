@@ -8,7 +8,7 @@ ghost use Rattle.grammar.specs.Byte.{of_name, tab};
 ghost use Rattle.grammar.specs.Name.{is_name, is_hyphen, is_list, names_in};
 ghost use Rattle.grammar.specs.Line.{is_depth, has_form, formed, is_line, begins, field};
 ghost use Rattle.grammar.specs.File.{met2, met3};
-ghost use Rattle.grammar.specs.Field.{form_of, forms_of};
+ghost use Rattle.grammar.specs.Field.{At, form_of, forms_of};
 
 use Form::{Depth, List, Name};
 use lines::{next_line, split_first};
@@ -142,7 +142,8 @@ pub fn line_begins(line: &[u8], c: u8) -> bool
 
 // Field k of the line; empty, where the line has none.
 pub fn field_at(line: &[u8], k: usize) -> &[u8]
-    ensures { result.now ≡ field line.now k }
+    ensures bytes { result.now ≡ field line.now k }
+    ensures place { At line.now k result.now }
 {
     line.split(|b| *b == b'\t').nth(k).unwrap_or(&[])
 }

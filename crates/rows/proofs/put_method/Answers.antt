@@ -12,14 +12,14 @@ use Rattle.rows.proofs.put_method.Goals as goal
 
 pub put_body-requires : goal.put_body-requires
 put_body-requires c =
-    let z = body_size c.args.line.now c.field_at-body.result.now c.field_at-body.ensures in
+    let z = body_size c.args.line.now c.field_at-body.result.now c.field_at-body.ensures.bytes in
     let o = set (set c.args.out.now 0 c.unwrap_or.result) 1 c.count_names.result in
     omega (arith, z, as_long c.args.out.now c.unwrap_or.result c.count_names.result, length-take (length o - 2) (drop 2 o), length-drop 2 o)
 
 pub returns : goal.returns
 returns c =
-    let d = c.field_at.ensures in
-    let e = c.field_at-body.ensures in
+    let d = c.field_at.ensures.bytes in
+    let e = c.field_at-body.ensures.bytes in
     let j = c.number_of-job in
     let o = set (set c.args.out.now 0 c.unwrap_or.result) 1 c.count_names.result in
     let z : length (body_in c.args.line.now) ≡ length (names_in c.field_at-body.result.now)
