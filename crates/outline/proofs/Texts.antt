@@ -162,12 +162,31 @@ pub record Led (c : ℕ) (text rest : List ℕ) (n : ℕ) : Type 0 where
   pub whole : (b : List ℕ) → ended LF (taken ++ b) ≡ ended LF taken ++ ended LF b
   pub lead : take_while (begins c) (ended LF text) ≡ ended LF taken ++ take_while (begins c) (ended LF rest)
   pub past : drop_while (begins c) (ended LF text) ≡ drop_while (begins c) (ended LF rest)
+  pub lines : (k : ℕ) (xs : List (List ℕ)) → placed k (ended LF taken ++ xs) ≡ placed k (ended LF taken) ++ placed (k + length taken) xs
   pub count : n ≡ length (ended LF taken)
   pub few : n + length rest ≤ length text
 
 pub led_first : (c : ℕ) (text : List ℕ) → Led c text text 0
-unfolding ended
-led_first c text = record { taken = []; parts = refl; whole = λ b. refl; lead = refl; past = refl; count = refl; few = omega arith }
+unfolding ended placed
+led_first c text = record {
+  taken = [];
+  parts = refl;
+  whole = λ b. refl;
+  lead = refl;
+  past = refl;
+  lines = λ k xs. let z : k + 0 ≡ k = omega arith in rw z;
+  count = refl;
+  few = omega arith;
+}
+
+-- one line more
+placed_more : (ls : List (List ℕ)) (line : List ℕ) (k n : ℕ) (xs : List (List ℕ))
+    → ((xs : List (List ℕ)) → placed k (ls ++ xs) ≡ placed k ls ++ placed (k + n) xs)
+    → placed k ((ls ++ line ∷ []) ++ xs) ≡ placed k (ls ++ line ∷ []) ++ placed (k + (n + (length line + 1))) xs
+unfolding placed
+placed_more ls line k n xs h =
+    let z : k + (n + (length line + 1)) ≡ k + n + length line + 1 = omega arith in
+    rw (z, append_assoc, h (line ∷ xs), h (line ∷ []), append_assoc)
 
 module _ {c : ℕ} {text rest : List ℕ} {n : ℕ} (u : Led c text rest n) where
   pub led_more : {line behind : List ℕ} → rest ≡ line ++ LF ∷ behind → ended LF rest ≡ line ∷ ended LF behind → begins c line ≡ true
@@ -185,6 +204,9 @@ module _ {c : ℕ} {text rest : List ℕ} {n : ℕ} (u : Led c text rest n) wher
             ∙ ap (λ (l : List (List ℕ)). l ++ ended LF w) (sym (u.whole full)));
         lead = u.lead ∙ rw (e, b, done, append_assoc);
         past = u.past ∙ rw (e, b);
+        lines = λ k xs.
+            let z : length (u.taken ++ full) ≡ length u.taken + (length line + 1) = omega (arith, length-append u.taken full, length-append line (LF ∷ [])) in
+            rw (done, z) (placed_more (ended LF u.taken) line k (length u.taken) xs (u.lines k));
         count = omega (arith, u.count, ap length done, length-append (ended LF u.taken) (line ∷ []));
         few = omega (arith, u.few, ap length p, length-append line (LF ∷ behind));
       }

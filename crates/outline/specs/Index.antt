@@ -1,15 +1,15 @@
 -- Inside the reader, nothing to believe: what the code keeps of a file, which is the texts of sections and the parts where names stand.
 -- Contracts cite it; it follows from the definitions. Assumes nothing.
-use Rattle.std.specs.Prelude.{◌≡◌, true, cond, List, ℕ, map, ◌+◌, ◌≤◌, ◌<◌, length, get_or, Option, Some, None}
+use Rattle.std.specs.Prelude.{◌≡◌, true, cond, List, ◌++◌, ℕ, map, ◌+◌, ◌≤◌, ◌<◌, length, get_or, take, drop, Option, Some, None}
 use Rattle.std.specs.List.{All}
 use Rattle.lists.specs.List.{all, take_while, drop_while}
 use Rattle.planning.specs.Table.{most_facts, most_steps, most_jobs, most_methods}
 use Rattle.lines.specs.Bytes.{LF}
-use Rattle.lines.specs.Parts.{Piece, no_line, ended, lines_of}
+use Rattle.lines.specs.Parts.{Piece, no_line, ended, placed, lines_of}
 use Rattle.lines.specs.Part.{Part, bytes_at}
-use Rattle.grammar.specs.Line.{begins, name_in}
+use Rattle.grammar.specs.Line.{F, S, T, byte_of, begins, name_in}
 use Rattle.grammar.specs.Name.{Name}
-use Rattle.outline.specs.Sections.{sections, start_line, root_line}
+use Rattle.outline.specs.Sections.{past, sections, start_line, root_line}
 use Rattle.outline.specs.Names.{among, number_of, Kind, fact, step, job, task}
 use Rattle.outline.specs.Part.{part_of}
 use Rattle.outline.specs.Questions.{most_names, short, met4}
@@ -31,10 +31,13 @@ most_in task = most_steps + most_jobs
 abbrev pub bytes_of : List Piece → List (List ℕ)
 bytes_of ls = map (λ l. l.bytes) ls
 
--- the lines of f are those in front of the text t that begin with the byte c, and those of b the others
+-- the lines of f are those in front of the text t that begin with the byte c, and those of b the others; b stands behind f, and so do its
+-- lines, wherever t stands
 pub record Runs (c : ℕ) (t f b : List ℕ) : Type 0 where
   pub front : ended LF f ≡ take_while (begins c) (ended LF t)
   pub behind : ended LF b ≡ drop_while (begins c) (ended LF t)
+  pub whole : t ≡ f ++ b
+  pub lines : (k : ℕ) → placed k (ended LF t) ≡ placed k (ended LF f) ++ placed (k + length f) (ended LF b)
 
 -- What questions 2 to 5, met, tell of a file: the counts of its F, S, T and M lines, the texts of the S and the M lines, the I and the R line,
 -- all within the limits
@@ -53,6 +56,22 @@ pub record Shaped (s : List ℕ) (f st j m : ℕ) (ss ms i r : List ℕ) : Type 
   pub few_methods : m ≤ most_methods
   pub bodies : all short (sections (lines_of s)).methods ≡ true
   pub ends : met4 (sections (lines_of s)) ≡ true
+
+-- the lines from the place a on: all of them for a = 0
+unfoldable pub lines_from : List ℕ → ℕ → List Piece
+unfolding ended placed
+lines_from s a = placed a (ended LF (drop a s))
+
+-- and of the places in it: the texts of the F, the S, the T and the M lines stand in front, one behind the other, so that the S lines, the T
+-- lines, the M lines and the last lines begin each where the text before ends
+pub record SectionsStand (s fs ss ts ms : List ℕ) : Type 0 where
+  pub texts : take (length fs + length ss + length ts + length ms) s ≡ fs ++ (ss ++ (ts ++ ms))
+  pub fact_lines : ended LF fs ≡ bytes_of (sections (lines_of s)).facts
+  pub job_lines : ended LF ts ≡ bytes_of (sections (lines_of s)).jobs
+  pub steps : lines_from s (length fs) ≡ past (byte_of F) (lines_of s)
+  pub jobs : lines_from s (length fs + length ss) ≡ past (byte_of S) (past (byte_of F) (lines_of s))
+  pub methods : lines_from s (length fs + length ss + length ts) ≡ past (byte_of T) (past (byte_of S) (past (byte_of F) (lines_of s)))
+  pub ends : lines_from s (length fs + length ss + length ts + length ms) ≡ (sections (lines_of s)).ends
 
 -- past the last of some spans
 abbrev pub no_span : Span

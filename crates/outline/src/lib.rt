@@ -12,7 +12,7 @@ ghost use Rattle.outline.specs.Part.{part_of};
 ghost use Rattle.outline.specs.Sections.{sections, is_end};
 ghost use Rattle.outline.specs.Names.{all_new, declared};
 ghost use Rattle.outline.specs.Questions.{most_names, within_counts, short};
-ghost use Rattle.outline.specs.Index.{number_in, most_in, Runs, Shaped, Held, Indexed, Within, part_in, shown, all_shown};
+ghost use Rattle.outline.specs.Index.{number_in, most_in, Runs, Shaped, SectionsStand, Held, Indexed, Within, part_in, shown, all_shown};
 ghost use Rattle.outline.specs.Outlined.{kind_of, questions2to5, questions2to6};
 
 use grammar::{are_lines, count_names, field_at, fits_and_ends, line_begins};
@@ -93,17 +93,21 @@ fn bodies_fit(text: &[u8]) -> bool
     true
 }
 
-// The sections of a file that meets questions 2 to 5: how many F and T lines, the S and the M lines, the I and the R line.
+// The sections of a file that meets questions 2 to 5: how many F and T lines and their texts, the S and the M lines, the I and the R line. The
+// texts stand in the file one behind the other, so each section's place is where those before it end.
 #[derive(Clone, Copy)]
 pub struct Shape<'a> {
     pub file: &'a [u8],
     pub facts: usize,
+    pub fact_lines: &'a [u8],
     pub steps: Section<'a>,
     pub jobs: usize,
+    pub job_lines: &'a [u8],
     pub methods: Section<'a>,
     pub start: &'a [u8],
     pub root: &'a [u8],
     ghost shaped: { Shaped file.now facts steps.count jobs methods.count steps.text.now methods.text.now start.now root.now },
+    ghost stand: { SectionsStand file.now fact_lines.now steps.text.now job_lines.now methods.text.now },
 }
 
 // Question 2 comes before any walk of the file, so that one that is too long is turned down at once, however long.
@@ -132,8 +136,10 @@ fn shape_of(file: &[u8]) -> Result<Shape<'_>, Unmet>
     Ok(Shape {
         file,
         facts: facts.count,
+        fact_lines: facts.text,
         steps,
         jobs: jobs.count,
+        job_lines: jobs.text,
         methods,
         start,
         root,

@@ -1,4 +1,5 @@
 use Rattle.std.proofs.Common.{◌∙◌, sym}
+use Rattle.outline.proofs.Places.{sections_stand}
 use Rattle.outline.proofs.Questions.{parted, fourth, fifth, shaped, asked2, asked3, asked4, asked5, asked_none}
 use Rattle.outline.proofs.shape_of.Goals as goal
 use Rattle.outline.proofs.shape_of.Goals.{then-not-counts_fit-via-then-not-counts_fit, then-not-counts_fit-via-else-not-counts_fit+then-not-bodies_fit}
@@ -35,6 +36,7 @@ invariant_of-result c =
       shaped = shaped u c.leading.result.0.counted c.leading-2.result.0.counted c.leading-3.result.0.counted c.leading-4.result.0.counted
           c.in-Some.ensures.lines (sym c.in-Some.ensures.asked) (sym c.counts_fit.ensures ∙ c.if-not-counts_fit.false)
           (sym c.bodies_fit.ensures ∙ c.if-not-bodies_fit.false);
+      stand = sections_stand c.leading.ensures c.leading-2.ensures c.leading-3.ensures c.leading-4.ensures u;
     }
 
 pub returns-clause-question : goal.returns-clause-question
