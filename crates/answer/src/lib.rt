@@ -81,7 +81,7 @@ pub fn take_answer(
     if !is_model(&accepted, heard) {
         return Err(Unmet::Satisfied);
     }
-    values[..heard.len()].copy_from_slice(heard);
+    writer::put_bytes(values, 0, heard);
     Ok(heard.len())
 }
 

@@ -4,5 +4,7 @@ pub mod Computed
 pub mod Numerals
 pub mod Literals
 pub mod Header
+-- bytes copied one by one
+pub mod Copied
 -- the loops' invariants
 pub mod Loops

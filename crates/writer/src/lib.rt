@@ -18,14 +18,16 @@ pub fn put_byte(out: &mut [u8], at: usize, b: u8) -> usize
     at + 1
 }
 
-// Some bytes.
+// Some bytes. One by one: what the library copies a slice by would want `memmove` of whoever links the calls from C.
 pub fn put_bytes(out: &mut [u8], at: usize, bytes: &[u8]) -> usize
     requires { at + length bytes.now ≤ length out.old }
     ensures { Wrote out.old at bytes.now out.new result }
 {
-    let end = at + bytes.len();
-    out[at..end].copy_from_slice(bytes);
-    end
+    let mut a = at;
+    for b in bytes {
+        a = put_byte(out, a, *b);
+    }
+    a
 }
 
 // A number's digits.
@@ -41,7 +43,9 @@ fn put_pair(out: &mut [u8], at: usize, n: u64) -> usize
     ensures { Wrote out.old at ((48 + n / 10 % 10) ∷ (48 + n % 10) ∷ []) out.new result }
 {
     let pair = [(48 + n / 10 % 10) as u8, (48 + n % 10) as u8];
-    put_bytes(out, at, &pair)
+    let end = at + pair.len();
+    out[at..end].copy_from_slice(&pair);
+    end
 }
 
 // The digits of a number below 100.

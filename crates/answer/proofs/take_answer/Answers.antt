@@ -1,7 +1,7 @@
-use mathlib.Core.Path.{sym, ◌∙◌}
+use mathlib.Core.Path.{refl, sym, ◌∙◌}
 use native.Mathlib.Omega.{arith}
-use lib.Seq.{length-take-le}
 use Rattle.std.proofs.lemmas.Result.{err_from_is_err_and}
+use Rattle.lists.proofs.Written.{wrote_whole}
 use Rattle.table.specs.Layout.{table_in}
 use Rattle.questions.proofs.Indexing.{acceptance}
 use Rattle.answer.proofs.Answered.{not_0, one_unmet, values_length}
@@ -22,8 +22,8 @@ returns-then-not-is_model c =
     (sym c.is_own.ensures ∙ c.if-not-is_own.false) c.args.values.now c.if-values-lt-VALUES_LEAST.false c.args.answer.now
     c.in_ok-heard.ensures.question c.in_ok-heard.ensures.values (sym c.is_model.ensures ∙ c.if-not-is_model.true)
 
-pub slice_bounds-copy_from_slice-end : goal.slice_bounds-copy_from_slice-end
-slice_bounds-copy_from_slice-end c =
+pub put_bytes-requires : goal.put_bytes-requires
+put_bytes-requires c =
     omega (
       arith,
       values_length (table_in c.in_ok-accepted.accepted.table) c.args.answer.now c.in_ok-heard.ensures.values,
@@ -31,28 +31,9 @@ slice_bounds-copy_from_slice-end c =
       c.if-values-lt-VALUES_LEAST.false,
     )
 
-pub slice_bounds-copy_from_slice-end-2 : goal.slice_bounds-copy_from_slice-end-2
-slice_bounds-copy_from_slice-end-2 c =
-    sym (length-take-le _ _
-    (omega (
-      arith,
-      values_length (table_in c.in_ok-accepted.accepted.table) c.args.answer.now c.in_ok-heard.ensures.values,
-      (acceptance c.in_ok-accepted.accepted.owned).few_variables,
-      c.if-values-lt-VALUES_LEAST.false,
-    )))
-
-pub copy_from_slice-requires : goal.copy_from_slice-requires
-copy_from_slice-requires c =
-    length-take-le _ _
-    (omega (
-      arith,
-      values_length (table_in c.in_ok-accepted.accepted.table) c.args.answer.now c.in_ok-heard.ensures.values,
-      (acceptance c.in_ok-accepted.accepted.owned).few_variables,
-      c.if-values-lt-VALUES_LEAST.false,
-    ))
-
 pub returns : goal.returns
 returns c =
-    take_met c.args.file.now (rw c.in_ok-accepted.ensures at c.in_ok-accepted.accepted.owned.verdict) c.args.tree.now c.if-tree-lt-MOST_NODES.false
+    rw (wrote_whole c.put_bytes.ensures)
+    (take_met c.args.file.now (rw c.in_ok-accepted.ensures at c.in_ok-accepted.accepted.owned.verdict) c.args.tree.now c.if-tree-lt-MOST_NODES.false
     (sym c.is_own.ensures ∙ c.if-not-is_own.false) c.args.values.now c.if-values-lt-VALUES_LEAST.false c.args.answer.now
-    c.in_ok-heard.ensures.question c.in_ok-heard.ensures.values (sym c.is_model.ensures ∙ c.if-not-is_model.false) c.copy_from_slice.ensures.after
+    c.in_ok-heard.ensures.question c.in_ok-heard.ensures.values (sym c.is_model.ensures ∙ c.if-not-is_model.false) refl)
