@@ -13,7 +13,7 @@ use Rattle.std.specs.Prelude.{Option, Some, None, is_some}
 use Rattle.std.specs.Option.{option_copied, option_eq}
 use Rattle.std.specs.List.{position_or_len, slice_get}
 use Rattle.std.proofs.lemmas.List.Recursion.{is_position_or_len}
-use Rattle.lists.proofs.Bool.{and_l, and_r, clash}
+use Rattle.lists.proofs.Bool.{and_l, and_r, clash, false_of}
 use Rattle.lists.proofs.Order.{le_or_lt}
 use Rattle.lists.specs.List.{any, find_index}
 use Rattle.lines.specs.Bytes.{same_bytes}
@@ -22,7 +22,7 @@ use Rattle.outline.specs.Index.{number_in, Within, shown, all_shown}
 use Rattle.outline.specs.Names.{all_new, among, number_of}
 use Rattle.outline.specs.declared.Span.{Span}
 
--- parts whose last bytes differ are not the same
+-- parts whose sizes, or whose last bytes, differ are not the same
 same_lists : (a b : List ℕ) → same_bytes a b ≡ true → a ≡ b
 unfolding same_bytes
 same_lists [] [] e = refl
@@ -30,6 +30,9 @@ same_lists [] (y ∷ b) e = absurd (cc)
 same_lists (x ∷ a) [] e = absurd (cc)
 same_lists (x ∷ a) (y ∷ b) e =
     ap₂ (λ (z : ℕ) (l : List ℕ). z ∷ l) (eqb-true x y (and_l (eqb x y) (same_bytes a b) e)) (same_lists a b (and_r (eqb x y) (same_bytes a b) e))
+
+pub size_differs : (a b : List ℕ) → (length a ≡ length b → ⊥) → false ≡ same_bytes a b
+size_differs a b n = sym (false_of (same_bytes a b) (λ e. n (ap length (same_lists a b e))))
 
 last_same : (r q : Option (Bor ℕ)) → option_copied r ≡ option_copied q → option_eq (λ x y. eqb x.now y.now) r q ≡ true
 last_same None None e = refl

@@ -194,11 +194,11 @@ fn declare(file: &[u8], n: usize) -> [Span; MOST_NAMES]
     names
 }
 
-// Names are often alike but for their ends, as numbered ones are.
+// Names are often alike but for their ends, as numbered ones are. Sizes come first, since they are at hand.
 fn is_same(a: &[u8], b: &[u8]) -> bool
     ensures { result ≡ same_bytes a.now b.now }
 {
-    a.last() == b.last() && a == b
+    a.len() == b.len() && a.last() == b.last() && a == b
 }
 
 // The number of a name among those that stand in some parts of the file, whether or not the file has an outline.
