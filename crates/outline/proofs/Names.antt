@@ -6,14 +6,15 @@ use mathlib.Core.List.{List, [], ◌∷◌, map}
 use Prim.Native.Nat.{ℕ, suc, ◌-◌, ◌+◌, ◌≤◌, ◌<◌}
 use native.Mathlib.Omega.{arith}
 use lib.Dec.{eqb, ltb}
-use lib.ListN.{length, length-map}
+use lib.ListN.{length, length-map, length-drop, drop}
+use lib.Seq.{length-take-le}
 use borrow.Author.Tests.{lt-ltb, le-ltb, ltb-true, eqb-true, eq-eqb}
 use denote.Ref.{Bor}
 use Rattle.std.specs.Prelude.{Option, Some, None, is_some}
 use Rattle.std.specs.Option.{option_copied, option_eq}
 use Rattle.std.specs.List.{position_or_len, slice_get}
 use Rattle.std.proofs.lemmas.List.Recursion.{is_position_or_len}
-use Rattle.lists.proofs.Bool.{and_l, and_r, clash, false_of}
+use Rattle.lists.proofs.Bool.{and_l, and_r, clash, eqb_other, false_of}
 use Rattle.lists.proofs.Order.{le_or_lt}
 use Rattle.lists.specs.List.{any, find_index}
 use Rattle.lines.specs.Bytes.{same_bytes}
@@ -22,7 +23,7 @@ use Rattle.outline.specs.Index.{number_in, Within, shown, all_shown}
 use Rattle.outline.specs.Names.{all_new, among, number_of}
 use Rattle.outline.specs.declared.Span.{Span}
 
--- parts whose sizes, or whose last bytes, differ are not the same
+-- parts whose last bytes differ are not the same
 same_lists : (a b : List ℕ) → same_bytes a b ≡ true → a ≡ b
 unfolding same_bytes
 same_lists [] [] e = refl
@@ -31,8 +32,11 @@ same_lists (x ∷ a) [] e = absurd (cc)
 same_lists (x ∷ a) (y ∷ b) e =
     ap₂ (λ (z : ℕ) (l : List ℕ). z ∷ l) (eqb-true x y (and_l (eqb x y) (same_bytes a b) e)) (same_lists a b (and_r (eqb x y) (same_bytes a b) e))
 
-pub size_differs : (a b : List ℕ) → (length a ≡ length b → ⊥) → false ≡ same_bytes a b
-size_differs a b n = sym (false_of (same_bytes a b) (λ e. n (ap length (same_lists a b e))))
+-- a span of another size shows another name
+pub size_differs : (s n : List ℕ) (p : Span) → p.start + p.size ≤ length s → (p.size ≡ length n → ⊥) → eqb p.size (length n) ≡ same_bytes n (shown s p)
+size_differs s n p h d =
+    let z : length (shown s p) ≡ p.size = length-take-le p.size (drop p.start s) (omega (arith, length-drop p.start s)) in
+    eqb_other p.size (length n) d ∙ sym (false_of (same_bytes n (shown s p)) (λ e. d (sym (ap length (same_lists n (shown s p) e) ∙ z))))
 
 last_same : (r q : Option (Bor ℕ)) → option_copied r ≡ option_copied q → option_eq (λ x y. eqb x.now y.now) r q ≡ true
 last_same None None e = refl

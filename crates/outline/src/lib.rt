@@ -161,6 +161,14 @@ impl Span {
     {
         &file[self.start..self.start + self.size]
     }
+
+    // Does it show this name? The size is at hand, so it is looked at before any byte is.
+    fn shows(self, file: &[u8], name: &[u8]) -> bool
+        requires { self.start + self.size ≤ length file.now }
+        ensures { result ≡ same_bytes name.now (shown file.now self) }
+    {
+        self.size == name.len() && is_same(name, self.of(file))
+    }
 }
 
 // Where the name of the line stands that begins at the place at.
@@ -194,11 +202,11 @@ fn declare(file: &[u8], n: usize) -> [Span; MOST_NAMES]
     names
 }
 
-// Names are often alike but for their ends, as numbered ones are. Sizes come first, since they are at hand.
+// Names are often alike but for their ends, as numbered ones are.
 fn is_same(a: &[u8], b: &[u8]) -> bool
     ensures { result ≡ same_bytes a.now b.now }
 {
-    a.len() == b.len() && a.last() == b.last() && a == b
+    a.last() == b.last() && a == b
 }
 
 // The number of a name among those that stand in some parts of the file, whether or not the file has an outline.
@@ -206,7 +214,7 @@ pub fn find(file: &[u8], names: &[Span], name: &[u8]) -> Option<usize>
     requires { Within file.now names.now }
     ensures { result ≡ number_in (all_shown file.now names.now) name.now }
 {
-    names.iter().position(|p| is_same(name, p.of(file)))
+    names.iter().position(|p| p.shows(file, name))
 }
 
 // Question 6, of the names that stand in some parts of the file.
