@@ -59,7 +59,7 @@ pub fn scatter(ns: &mut [Node], flat: &[u64])
 {
     let (records, _) = flat.as_chunks::<5>();
     for (i, w) in records.iter().enumerate() {
-        ns[i] = Node::from(*w);
+        write(ns, i, Node::from(*w));
     }
 }
 
@@ -69,5 +69,10 @@ pub fn is_same(ns: &[Node], flat: &[u64]) -> bool
     ensures { result ≡ same_to flat.now ns.now (length flat.now / 5) }
 {
     let (records, _) = flat.as_chunks::<5>();
-    ns.iter().zip(records).all(|(n, w)| *n == Node::from(*w))
+    for (i, w) in records.iter().enumerate() {
+        if read(ns, i) != Node::from(*w) {
+            return false;
+        }
+    }
+    true
 }

@@ -1,20 +1,25 @@
--- The answer of `all` over the pairs, pair by pair.
-use Rattle.std.proofs.Common.{◌/◌, ◌≤◌, ℕ, List, length, ap, ◌∙◌, rules, tests, arith}
-use Rattle.std.proofs.lemmas.Iterator.{YieldsList-from_slice, YieldsList-from_zip}
-use Rattle.std.proofs.lemmas.Iterator.Search.{all_from_yields_List}
-use Rattle.std.specs.List.{list_all, zip}
-use Rattle.nodes.specs.Nodes.{in_array}
-use Rattle.nodes.specs.Tree.{same_node}
-use Rattle.nodes.specs.declared.Node.{Node}
-use Rattle.nodes.proofs.Same.{same_zip}
+-- One record more is the same, or tells all of them apart.
+use Rattle.std.proofs.Common.{◌≡◌, ◌/◌, ◌<◌, ◌∙◌, length, get_or, [], arith, ap}
+use Rattle.nodes.specs.Nodes.{in_array, record_at}
+use Rattle.nodes.proofs.Laws.{in_chunk}
+use Rattle.nodes.proofs.Same.{same_none, same_next, same_out}
 use Rattle.nodes.proofs.is_same.Goals as goal
 
-pub returns : goal.returns
-returns c =
+pub loop-i-init : goal.loop-i-init
+loop-i-init c = same_none c.args.flat.now c.args.ns.now
+
+pub returns-then-ne : goal.returns-then-ne
+returns-then-ne c =
     let fs = c.args.flat.now in
-    let ns = c.args.ns.now in
-    let h = all_from_yields_List (λ (p : Node × List ℕ). same_node p.0 (in_array p.1)) c.all.new.self _ c.all.result c.all.ensures.ran
-    (YieldsList-from_zip (YieldsList-from_slice ns cc) (YieldsList-from_slice c.as_chunks.result.0.now cc)) (λ x b q k. search (rules, tests)) in
-    let long : length fs / 5 ≤ length ns = omega (arith, c.requires) in
-    h ∙ ap (λ l. list_all (λ (p : Node × List ℕ). same_node p.0 (in_array p.1)) (zip ns l)) c.as_chunks.ensures.front
-    ∙ same_zip fs ns (length fs / 5) long
+    let i = c.loop-i.i in
+    let h : i < length fs / 5 = omega (arith, c.as_chunks.ensures.front_len, c.loop-i-test.true) in
+    let e : c.from.result ≡ record_at fs i = c.from.ensures ∙ ap (λ l. in_array (get_or l i [])) c.as_chunks.ensures.front ∙ in_chunk fs (length fs / 5) i h in
+    same_out fs c.args.ns.now i c.read.ensures e c.ne.ensures h c.if-ne.true
+
+pub loop-i-preserved : goal.loop-i-preserved
+loop-i-preserved c =
+    let fs = c.args.flat.now in
+    let i = c.loop-i.i in
+    let h : i < length fs / 5 = omega (arith, c.as_chunks.ensures.front_len, c.loop-i-test.true) in
+    let e : c.from.result ≡ record_at fs i = c.from.ensures ∙ ap (λ l. in_array (get_or l i [])) c.as_chunks.ensures.front ∙ in_chunk fs (length fs / 5) i h in
+    same_next fs c.args.ns.now i c.read.ensures e c.ne.ensures c.loop-i.invariant c.if-ne.false

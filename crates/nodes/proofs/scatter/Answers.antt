@@ -13,7 +13,7 @@ loop-i-preserved c =
     let i = c.loop-i.i in
     let h : i < length fs / 5 = omega (arith, c.as_chunks.ensures.front_len) in
     let e : c.from.result ≡ record_at fs i = c.from.ensures ∙ ap (λ l. in_array (get_or l i [])) c.as_chunks.ensures.front ∙ in_chunk fs (length fs / 5) i h in
-    rw (e, c.loop-i.invariant) (laid_more fs c.args.ns.now i (omega (arith, c.requires)))
+    c.write.ensures ∙ rw (e, c.loop-i.invariant) (laid_more fs c.args.ns.now i (omega (arith, c.requires)))
 
 pub returns : goal.returns
 returns c =
