@@ -1,22 +1,25 @@
--- Question 11, and the lines of a text call.
--- By how many clauses there are.
+-- Question 11, the lines of a text call, and what comes of the questions in front of 11.
+-- By how many clauses there are; by the definition of `asked`.
 use mathlib.Core.Path.{◌≡◌, sym, ap₂, ◌∙◌}
-use mathlib.Core.List.{List, [], ◌∷◌}
+use mathlib.Core.List.{List, [], ◌∷◌, ◌++◌}
 use Prim.Native.Nat.{ℕ, ◌≤◌, ◌<◌}
 use native.Mathlib.Omega.{arith}
-use lib.ListN.{length}
-use Rattle.std.specs.Prelude.{Ok, Err}
-use Rattle.unmet.specs.declared.Unmet.TheVariants.{Line}
+use lib.ListN.{length, drop}
+use Rattle.std.specs.Prelude.{Result, Ok, Err}
+use Rattle.unmet.specs.declared.Unmet.{Unmet}
+use Rattle.unmet.specs.declared.Unmet.TheVariants.{Room, Line}
+use Rattle.unmet.specs.Number.{number_of}
 use Rattle.lists.specs.Question.{first_unmet}
 use Rattle.lists.proofs.Bool.{leb_in, leb_no}
 use Rattle.lists.proofs.Written.{wrote_whole}
 use Rattle.planning.specs.Table.{Table}
 use Rattle.planning.specs.Clause.{formula}
-use Rattle.planning.specs.Text.{bytes_used}
+use Rattle.planning.specs.Text.{written, bytes_used, next_line}
 use Rattle.text.specs.Lines.{PutText}
 use Rattle.text.specs.declared.Lines.{Lines}
-use Rattle.questions.specs.Questions.{taken}
-use Rattle.encoding.specs.Calls.{questions_of_line}
+use Rattle.questions.specs.Questions.{unmet, accepting, taken}
+use Rattle.questions.proofs.Asked.{came_short, came_unmet}
+use Rattle.encoding.specs.Calls.{enough_text, text_from, questions_of_line, writing_formula, formula_after}
 use Rattle.encoding.specs.Parts.{Lined}
 
 module _ (T : Table) (line : ℕ) {o : List ℕ} where
@@ -33,3 +36,20 @@ module _ (T : Table) (line : ℕ) {o : List ℕ} where
         answer = ap₂ (λ (a b : ℕ). taken (a ∷ b ∷ [])) u p.next ∙ sym (rw f);
         left = wrote_whole p.text ∙ sym (rw f);
       }
+
+-- With no tree lent: what a short buffer hands back and leaves, and one of 2 to 9 that is not met -------------------------------
+module _ (file : List ℕ) (line : ℕ) (text : List ℕ) where
+  abbrev OutcomeAlone : Result Lines Unmet → List ℕ → Type 0
+  OutcomeAlone r text' = (text_from r ≡ writing_formula file line text) × (text' ≡ formula_after file line text)
+
+  abbrev answers : Table → List ℕ
+  answers T = bytes_used T line (length text) ∷ next_line T line (length text) ∷ []
+
+  abbrev left : Table → List ℕ
+  left T = written T line (length text) ++ drop (bytes_used T line (length text)) text
+
+  pub formula_short : length text < 1024 → OutcomeAlone (Err Room) text
+  formula_short h = came_short (enough_text text) file (questions_of_line line) answers text left (leb_no 1024 (length text) h)
+
+  pub formula_unmet : 1024 ≤ length text → (q : Unmet) → accepting file ≡ unmet (number_of q) → OutcomeAlone (Err q) text
+  formula_unmet k q a = came_unmet (enough_text text) file (questions_of_line line) answers text left (leb_in 1024 (length text) k) a

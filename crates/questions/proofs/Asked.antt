@@ -14,6 +14,14 @@ module _ {L : Type 0} (enough : Bool) (file : List ℕ) (more : Table → List (
   abbrev Came : HandedBack → L → Type 0
   Came back new = (back ≡ asked enough file more turned_down (λ T. taken (values T))) × (new ≡ asked enough file more (λ n. old) left)
 
+  -- what is lent is too short
+  pub came_short : enough ≡ false → Came (turned_down 1) old
+  came_short e = (rw e, rw e)
+
+  -- 1 is met, and one of 2 to 9 is not
+  pub came_unmet : enough ≡ true → {q : ℕ} → accepting file ≡ unmet q → Came (turned_down q) old
+  came_unmet e a = (rw (e, a), rw (e, a))
+
   -- 1 to 9 are met, and one behind 9 is not, or all are
   module _ (e : enough ≡ true) {T : Table} (a : accepting file ≡ accepted T) where
     pub came_by : {back : HandedBack} {new : L} → back ≡ by_number (first_unmet (more T)) turned_down (taken (values T))
