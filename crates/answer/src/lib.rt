@@ -38,7 +38,9 @@ fn hear<'a>(
     Ok(values)
 }
 
-// Question 15, by an index in N words.
+// Question 15, by an index in N words. Here and below not inlined, so that no call has an index on its stack while it reads the table, nor the
+// words of both lengths.
+#[inline(never)]
 fn is_model_by<const N: usize>(accepted: &Accepted<'_>, values: &[u8]) -> bool
     requires { (length (index_of (table_in accepted.now.table)) ≤ N) × (N ≤ 65536) }
     ensures { result ≡ met15 (table_in accepted.now.table) (truths_in values.now) }
@@ -94,6 +96,7 @@ fn are_binary(values: &[u8]) -> bool
 }
 
 // Question 15, and the lines, by an index in N words.
+#[inline(never)]
 fn list_by<const N: usize>(
     accepted: &Accepted<'_>,
     values: &[u8],

@@ -26,7 +26,9 @@ pub struct Counts {
     pub clauses: usize,
 }
 
-// How many clauses there are, by an index in N words.
+// How many clauses there are, by an index in N words. Here and below not inlined, so that no call has an index on its stack while it reads the
+// table, nor the words of both lengths.
+#[inline(never)]
 fn clauses_by<const N: usize>(accepted: &Accepted<'_>) -> usize
     requires { (length (index_of (table_in accepted.now.table)) ≤ N) × (N ≤ 65536) }
     ensures { result ≡ length (formula (table_in accepted.now.table)) }
@@ -76,6 +78,7 @@ pub fn build(file: &[u8], tree: &mut [Node]) -> Result<usize, Unmet>
 }
 
 // Question 11, and the lines, by an index in N words.
+#[inline(never)]
 fn lines_by<const N: usize>(
     accepted: &Accepted<'_>,
     line: usize,
