@@ -12,26 +12,31 @@ use unmet::Unmet;
 // check TABLE: how many nodes, variables and clauses there are.
 pub fn check(rt: &(impl Print + Eprint), file: &[u8]) {
     match encoding::check(file) {
-        Ok(counts) => print::written(
-            rt,
-            print!(rt;
-                "{}\t{}\t{}",
-                counts.nodes, counts.variables, counts.clauses
-            ),
-        ),
+        Ok(counts) => {
+            print::number(rt, counts.nodes);
+            print::tab(rt);
+            print::number(rt, counts.variables);
+            print::tab(rt);
+            print::number(rt, counts.clauses);
+        }
         Err(unmet) => print::refused(rt, unmet),
     }
-    print::bytes(rt, b"\n");
+    print::line_end(rt);
 }
 
 // The outcome of a text call, and a checksum of the buffer.
 fn print_text(rt: &(impl Print + Eprint), outcome: Result<Lines, Unmet>, buffer: &[u8]) {
     match outcome {
-        Ok(lines) => print::written(rt, print!(rt; "{}\t{}", lines.used, lines.next)),
+        Ok(lines) => {
+            print::number(rt, lines.used);
+            print::tab(rt);
+            print::number(rt, lines.next);
+        }
         Err(unmet) => print::refused(rt, unmet),
     }
-    let sum = cases::checksum_bytes(cases::checksum_start(), buffer);
-    print::written(rt, println!(rt; "\t{sum}"));
+    print::tab(rt);
+    print::word(rt, cases::checksum_bytes(cases::checksum_start(), buffer));
+    print::line_end(rt);
 }
 
 // A text call with the first n bytes of the buffer.
@@ -51,6 +56,15 @@ pub fn text(rt: &(impl Print + Eprint), file: &[u8], line: usize, length: usize)
     print_text(rt, outcome, &buffer);
 }
 
+fn print_sum(rt: &(impl Print + Eprint), bytes: usize, parts: usize, sum: u64) {
+    print::number(rt, bytes);
+    print::tab(rt);
+    print::number(rt, parts);
+    print::tab(rt);
+    print::word(rt, sum);
+    print::line_end(rt);
+}
+
 // All parts of what `formula` writes: bytes, parts, and the checksum of the bytes. Of the text only its length is known afterwards.
 fn whole_into(rt: &(impl Print + Eprint), file: &[u8], text: &mut [u8])
     requires { 1024 ≤ length text.old }
@@ -66,7 +80,7 @@ fn whole_into(rt: &(impl Print + Eprint), file: &[u8], text: &mut [u8])
         parts = parts.wrapping_add(1);
         sum = cases::checksum_bytes(sum, &text[..part.used]);
         if part.last {
-            print::written(rt, println!(rt; "{bytes}\t{parts}\t{sum}"));
+            print_sum(rt, bytes, parts, sum);
             return;
         }
         line = part.next;
@@ -99,7 +113,7 @@ pub fn list(rt: &(impl Print + Eprint), file: &[u8], reply: &[u8], length: usize
     let mut buffer = [7u8; 24600];
     match list_into(file, reply, &mut buffer, length) {
         Ok(used) => {
-            print::written(rt, print!(rt; "{used}"));
+            print::number(rt, used);
             print::kept_from(rt, &buffer, used);
             print::part(rt, &buffer, used);
         }

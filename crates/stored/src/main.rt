@@ -30,7 +30,7 @@ fn run_case(rt: &(impl Files + Print + Eprint), line: &[u8]) {
     let n = programs::read_named(rt, cases::field(line, 1), &mut file);
     let m = programs::read_named(rt, cases::field(line, 2), &mut reply);
     print::bytes(rt, line);
-    print::bytes(rt, b"\n");
+    print::line_end(rt);
     run(
         rt,
         cases::field(line, 0),

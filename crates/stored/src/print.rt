@@ -1,4 +1,5 @@
-// Writes bytes, a refusal and the fields of an outcome's line.
+// Writes bytes, numbers and the fields of an outcome's line. Each goes out by a write of its own: where one fails, standard error says so of
+// that one, and the next is tried all the same.
 use std::io;
 use unmet::Unmet;
 
@@ -13,9 +14,27 @@ pub fn bytes(rt: &(impl Print + Eprint), text: &[u8]) {
     written(rt, rt.write_all(text));
 }
 
+pub fn number(rt: &(impl Print + Eprint), n: usize) {
+    word(rt, n as u64);
+}
+
+pub fn word(rt: &(impl Print + Eprint), n: u64) {
+    written(rt, rt.print(n));
+}
+
+pub fn tab(rt: &(impl Print + Eprint)) {
+    bytes(rt, b"\t");
+}
+
+pub fn line_end(rt: &(impl Print + Eprint)) {
+    bytes(rt, b"\n");
+}
+
 // A refusal, with the line still open.
 pub fn refused(rt: &(impl Print + Eprint), unmet: Unmet) {
-    written(rt, print!(rt; "refused\t{}", unmet.number()));
+    bytes(rt, b"refused");
+    tab(rt);
+    number(rt, unmet.number());
 }
 
 // The first n bytes of a buffer.

@@ -1,18 +1,21 @@
 // The cases of the reader: a table that is read is written line by line, with numbers for names that are used. A task is `s` or `j` and its
 // number. `ws` is the table.
-use crate::print::{bytes, refused, written};
+use crate::print::{bytes, line_end, number, refused, tab, written};
 use table::{FactSet, Task};
 
 // The facts of a set, rising, among so many facts; a hyphen where there is none.
 fn print_set(rt: &(impl Print + Eprint), set: FactSet, facts: usize) {
-    let mut mark = "";
+    let mut before = false;
     for i in 0..facts {
         if bitset::has(&set, i) {
-            written(rt, print!(rt; "{mark}{i}"));
-            mark = ",";
+            if before {
+                bytes(rt, b",");
+            }
+            number(rt, i);
+            before = true;
         }
     }
-    if mark.is_empty() {
+    if !before {
         bytes(rt, b"-");
     }
 }
@@ -29,7 +32,7 @@ fn print_names<'a, F: Fn(usize) -> &'a [u8]>(
     for i in 0..count {
         written(rt, print!(rt; "{letter}\t"));
         bytes(rt, name(i));
-        bytes(rt, b"\n");
+        line_end(rt);
     }
 }
 
@@ -43,20 +46,25 @@ fn print_steps(rt: &(impl Print + Eprint), file: &[u8], ws: &[u64]) {
             table::sets(ws, i),
             table::clears(ws, i),
         ] {
-            bytes(rt, b"\t");
+            tab(rt);
             print_set(rt, set, facts);
         }
-        bytes(rt, b"\n");
+        line_end(rt);
     }
 }
 
 fn print_task(rt: &(impl Print + Eprint), task: Option<Task>) {
-    let outcome = match task {
-        Some(Task::Step(s)) => print!(rt; "s{s}"),
-        Some(Task::Job(j)) => print!(rt; "j{j}"),
-        None => print!(rt; "nothing"),
-    };
-    written(rt, outcome);
+    match task {
+        Some(Task::Step(s)) => {
+            bytes(rt, b"s");
+            number(rt, s);
+        }
+        Some(Task::Job(j)) => {
+            bytes(rt, b"j");
+            number(rt, j);
+        }
+        None => bytes(rt, b"nothing"),
+    }
 }
 
 fn print_body(rt: &(impl Print + Eprint), ws: &[u64], m: usize) {
@@ -74,19 +82,22 @@ fn print_body(rt: &(impl Print + Eprint), ws: &[u64], m: usize) {
 
 fn print_methods(rt: &(impl Print + Eprint), ws: &[u64]) {
     for m in 0..table::methods(ws) {
-        written(rt, print!(rt; "M\t{}\t", table::job_of(ws, m)));
+        bytes(rt, b"M\t");
+        number(rt, table::job_of(ws, m));
+        tab(rt);
         print_body(rt, ws, m);
-        bytes(rt, b"\n");
+        line_end(rt);
     }
 }
 
 fn print_ends(rt: &(impl Print + Eprint), ws: &[u64]) {
     bytes(rt, b"I\t");
     print_set(rt, table::start(ws), table::facts(ws));
-    written(
-        rt,
-        println!(rt; "\nR\t{}\t{}", table::root(ws), table::depth(ws)),
-    );
+    bytes(rt, b"\nR\t");
+    number(rt, table::root(ws));
+    tab(rt);
+    number(rt, table::depth(ws));
+    line_end(rt);
 }
 
 // read TABLE: the number of the first of questions 2 to 7 that is not met, or the table.
@@ -106,7 +117,7 @@ pub fn read(rt: &(impl Print + Eprint), file: &[u8]) {
         }
         Err(unmet) => {
             refused(rt, unmet);
-            bytes(rt, b"\n");
+            line_end(rt);
         }
     }
 }
