@@ -31,7 +31,7 @@ use Rattle.answer.specs.Parts.{Showed}
 use Rattle.answer.proofs.Acceptance.{short_names}
 
 -- a model's values, read node by node, are the listing of the tree that it gives
-model_walked : (T : Table) → Accepted T → (file : List ℕ) {vs : List Bool} → Model T vs → walked T (shown_names file (names_of file)) (value vs) ≡ listing_for file T vs
+pub model_walked : (T : Table) → Accepted T → (file : List ℕ) {vs : List Bool} → Model T vs → walked T (shown_names file (names_of file)) (value vs) ≡ listing_for file T vs
 model_walked T a file {vs} m =
     let N = shown_names file (names_of file) in
     let g = (demand3 T a.sound).gives vs m in

@@ -33,7 +33,7 @@ fn is_comment(line: &[u8]) -> bool
     matches!(kind_of(line), Kind::Comment)
 }
 
-// The text from its first line on that is no comment.
+// The text from its first line on that is no comment. Left free: where it begins, if there is none and no LF ends the last.
 pub fn pass_comments(text: &[u8]) -> &[u8]
     ensures lines { ended LF result.now ≡ drop_while is_comment (ended LF text.now) }
     ensures tail { (front : List ℕ) × (text.now ≡ front ++ result.now) }

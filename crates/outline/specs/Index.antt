@@ -32,7 +32,7 @@ abbrev pub bytes_of : List Piece → List (List ℕ)
 bytes_of ls = map (λ l. l.bytes) ls
 
 -- the lines of f are those in front of the text t that begin with the byte c, and those of b the others; b stands behind f, and so do its
--- lines, wherever t stands
+-- lines, wherever t stands. Left free, where b has no line: on which side the bytes stand that no LF ends
 pub record Runs (c : ℕ) (t f b : List ℕ) : Type 0 where
   pub front : ended LF f ≡ take_while (begins c) (ended LF t)
   pub behind : ended LF b ≡ drop_while (begins c) (ended LF t)

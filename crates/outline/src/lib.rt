@@ -41,7 +41,8 @@ pub struct Section<'a> {
     ghost counted: { count ≡ length (ended LF text.now) },
 }
 
-// The lines in front of the text that begin with the byte c, and the text behind them.
+// The lines in front of the text that begin with the byte c, and the text behind them. Left free, where no line stands behind: on which side
+// the bytes are that no LF ends.
 fn leading(text: &[u8], c: u8) -> (Section<'_>, &[u8])
     ensures { Runs c text.now result.0.text.now result.1.now }
 {
